@@ -1,0 +1,4 @@
+pub mod Code
+pub mod Power
+pub mod Spreads
+pub mod laws

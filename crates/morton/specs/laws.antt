@@ -1,0 +1,6 @@
+pub mod Code
+pub mod Cell
+pub mod Spread
+pub mod Square
+pub mod Quarter
+pub mod Power

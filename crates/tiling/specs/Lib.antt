@@ -1,0 +1,5 @@
+pub mod Leaf
+pub mod WellFormed
+pub mod Map
+pub mod Check
+pub mod laws

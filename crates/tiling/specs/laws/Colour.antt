@@ -1,0 +1,25 @@
+-- The colour of a code is that of the one leaf in which it lies.
+use mathlib.Core.Path.{_≡_}
+use mathlib.Core.List.{List, [], _∷_}
+use Prim.Native.Nat.{ℕ, zero, suc, _+_, _/_, _%_, _^_, _<_, _≤_}
+use native.Mathlib.Nat.{not-suc-le-zero, le-of-suc-le-suc}
+use native.Mathlib.Omega.{arith}
+use lib.ListN.{length, getD}
+use borrow.Author.Tests.{lt-ltb, le-ltb}
+use Rattle.tiling.specs.Leaf.{codeOf, colourOf, endOf}
+use Rattle.tiling.specs.Map.{colourAt}
+use Rattle.tiling.specs.WellFormed.{WellFormed}
+use Rattle.tiling.specs.laws.Run.{Run, run-from, formed-run}
+
+run-colour : (n e : ℕ) (l : List ℕ) (e′ : ℕ) → Run n e l e′ → (i k : ℕ) → i < length l
+    → codeOf (getD l i 0) ≤ k → k < endOf (getD l i 0) → colourAt l k ≡ colourOf (getD l i 0)
+unfolding colourAt
+run-colour n e [] e′ r i k h a b = absurd (not-suc-le-zero h)
+run-colour n e (w ∷ ws) e′ r zero k h a b = rw (lt-ltb k (endOf w) b)
+run-colour n e (w ∷ ws) e′ r (suc i) k h a b =
+    rw (le-ltb k (endOf w) (omega (arith, run-from n (endOf w) ws e′ (r .1) i (le-of-suc-le-suc h))))
+    (run-colour n (endOf w) ws e′ (r .1) i k (le-of-suc-le-suc h) a b)
+
+pub leaf-shows : {n : ℕ} {l : List ℕ} → WellFormed n l → (i k : ℕ) → i < length l
+    → codeOf (getD l i 0) ≤ k → k < endOf (getD l i 0) → colourAt l k ≡ colourOf (getD l i 0)
+leaf-shows {n} {l} f i k h a b = run-colour n 0 l (4 ^ n) (formed-run f) i k h a b

@@ -1,0 +1,91 @@
+// Lists of leaves. A map is a list of square blocks, each one word, that tile its square in code order: such a list is well formed.
+//
+// Read first: `check`, which judges a list; `leaf`, which makes a word. What they mean is defined in specs/Leaf.antt,
+// specs/WellFormed.antt and specs/Check.antt, and what colour a map has at a cell in specs/Map.antt.
+ghost use mathlib.Core.Path.{_≡_};
+ghost use Prim.Native.Nat.{_<_, _≤_, _^_};
+ghost use Rattle.morton.specs.Power.{highest};
+ghost use Rattle.tiling.specs.Leaf.{leaf, codeOf, levelOf, colourOf, endOf};
+ghost use Rattle.tiling.specs.Check.{rightEntry, checked};
+
+// The largest size of a map.
+pub const LIMIT: u64 = 12;
+
+// The word of a leaf.
+pub fn leaf(code: u64, level: u64, colour: u8) -> u64
+    requires { ⌜ (code < 4 ^ highest) × (level ≤ highest) ⌝ }
+    ensures { λ r. ⌜ r ≡ leaf code level colour ⌝ }
+{
+    code * 65536 + level * 256 + colour as u64
+}
+
+// The code of a leaf's block.
+pub fn code_of(w: u64) -> u64
+    ensures { λ r. ⌜ r ≡ codeOf w ⌝ }
+{
+    w / 65536
+}
+
+// The level of a leaf's block.
+pub fn level_of(w: u64) -> u64
+    ensures { λ r. ⌜ r ≡ levelOf w ⌝ }
+{
+    w / 256 % 256
+}
+
+// The colour of a leaf.
+pub fn colour_of(w: u64) -> u8
+    ensures { λ r. ⌜ r ≡ colourOf w ⌝ }
+{
+    (w % 256) as u8
+}
+
+// The end of an entry: the first code past its block.
+pub fn end_of(w: u64) -> u64
+    requires { ⌜ levelOf w ≤ highest ⌝ }
+    ensures { λ r. ⌜ r ≡ endOf w ⌝ }
+{
+    code_of(w) + morton::area(level_of(w))
+}
+
+// Whether the entry w is right in a map of size n, after entries that end at `end`.
+fn right_entry(n: u64, end: u64, w: u64) -> bool
+    requires { ⌜ n ≤ highest ⌝ }
+    ensures { λ r. ⌜ r ≡ rightEntry n end w ⌝ }
+{
+    let level = level_of(w);
+    if n < level {
+        return false;
+    }
+    (code_of(w) == end) & (end < morton::area(n)) & (end % morton::area(level) == 0)
+}
+
+// What the check of a list finds.
+pub enum Checked {
+    // The list is well formed.
+    Tiles,
+    // The position of the first wrong entry, or the length if the list stops short.
+    Wrong(usize),
+}
+
+// The check of a list for a map of size n.
+pub fn check(n: u64, list: &[u64]) -> Checked
+    requires { ⌜ n ≤ highest ⌝ }
+    ensures { λ r. ⌜ r ≡ checked n (now (list .entry)) ⌝ }
+{
+    let mut end: u64 = 0;
+    let mut i: usize = 0;
+    while i < list.len() {
+        let w = list[i];
+        if !right_entry(n, end, w) {
+            return Checked::Wrong(i);
+        }
+        end = end_of(w);
+        i += 1;
+    }
+    if end == morton::area(n) {
+        Checked::Tiles
+    } else {
+        Checked::Wrong(i)
+    }
+}
