@@ -5,6 +5,7 @@
 pub mod search;
 pub mod square;
 
+pub use search::colour_in;
 pub use search::find;
 pub use square::ask;
 pub use square::biased;

@@ -1,4 +1,10 @@
 // The leaf of a list in which a code lies. No entry is decoded but for its code.
+ghost use mathlib.Core.Path.{_≡_};
+ghost use mathlib.Core.Bool.{true};
+ghost use Prim.Native.Nat.{_≤_};
+ghost use Rattle.morton.specs.Power.{highest};
+ghost use Rattle.tiling.specs.WellFormed.{WellFormed};
+ghost use Rattle.tiling.specs.Map.{inside, colourIn};
 ghost use Rattle.probe.specs.Search.{Spans, Found, Between, After, Before};
 
 // Its place, where it lies at or after one place and before another: by halving.
@@ -70,4 +76,13 @@ pub fn find(list: &[u64], code: u64, hint: usize) -> usize
         return after(list, code, hint);
     }
     before(list, code, hint)
+}
+
+// The colour of a cell of a map of size n.
+pub fn colour_in(n: u64, list: &[u64], row: i64, column: i64) -> u8
+    requires { ⌜ (n ≤ highest) × WellFormed n (now list) × (inside n row column ≡ true) ⌝ }
+    ensures { λ r. ⌜ r ≡ colourIn n (now (list .entry)) row column ⌝ }
+{
+    let at = find(list, tiling::cell_code(n, row, column), list.len());
+    tiling::colour_of(list[at])
 }

@@ -3,9 +3,13 @@
 // Read first: `check`, which judges a list; `leaf`, which makes a word. What they mean is defined in specs/Leaf.antt,
 // specs/WellFormed.antt and specs/Check.antt, and what colour a map has at a cell in specs/Map.antt.
 ghost use mathlib.Core.Path.{_≡_};
+ghost use mathlib.Core.Bool.{true};
 ghost use Prim.Native.Nat.{_<_, _≤_, _^_};
+ghost use lib.IntN.{natAbs};
+ghost use Rattle.morton.specs.Code.{code};
 ghost use Rattle.morton.specs.Power.{highest};
 ghost use Rattle.tiling.specs.Leaf.{leaf, codeOf, levelOf, colourOf, endOf};
+ghost use Rattle.tiling.specs.Map.{within, inside};
 ghost use Rattle.tiling.specs.Check.{rightEntry, checked};
 
 // The largest size of a map.
@@ -88,4 +92,32 @@ pub fn check(n: u64, list: &[u64]) -> Checked
     } else {
         Checked::Wrong(i)
     }
+}
+
+// Whether a row or a column lies within a square of size n.
+fn within(n: u64, v: i64) -> bool
+    requires { ⌜ n ≤ highest ⌝ }
+    ensures { λ r. ⌜ r ≡ within n v ⌝ }
+{
+    if v < 0 {
+        return false;
+    }
+    (v as u64) < morton::side(n)
+}
+
+// Whether a cell lies within a square of size n.
+pub fn inside(n: u64, row: i64, column: i64) -> bool
+    requires { ⌜ n ≤ highest ⌝ }
+    ensures { λ r. ⌜ r ≡ inside n row column ⌝ }
+{
+    within(n, row) & within(n, column)
+}
+
+// The code of a cell of a square of size n, by its row and its column.
+pub fn cell_code(n: u64, row: i64, column: i64) -> u64
+    requires { ⌜ (n ≤ highest) × (inside n row column ≡ true) ⌝ }
+    ensures { λ r. ⌜ r ≡ code (natAbs row) (natAbs column) ⌝ }
+{
+    let table = morton::spreads();
+    morton::code_of(row as u64, column as u64, &table)
 }

@@ -1,13 +1,16 @@
 -- The colour of a code is that of the one leaf in which it lies.
 use mathlib.Core.Path.{_≡_}
+use mathlib.Core.Bool.{true}
 use mathlib.Core.List.{List, [], _∷_}
 use Prim.Native.Nat.{ℕ, zero, suc, _+_, _/_, _%_, _^_, _<_, _≤_}
 use native.Mathlib.Nat.{not-suc-le-zero, le-of-suc-le-suc}
 use native.Mathlib.Omega.{arith}
+use lib.IntN.{ℤ, natAbs}
 use lib.ListN.{length, getD}
 use borrow.Author.Tests.{lt-ltb, le-ltb}
 use Rattle.tiling.specs.Leaf.{codeOf, colourOf, endOf}
-use Rattle.tiling.specs.Map.{colourAt}
+use Rattle.morton.specs.Code.{code}
+use Rattle.tiling.specs.Map.{colourAt, inside, colourIn}
 use Rattle.tiling.specs.WellFormed.{WellFormed}
 use Rattle.tiling.specs.laws.Run.{Run, run-from, formed-run}
 
@@ -23,3 +26,8 @@ run-colour n e (w ∷ ws) e′ r (suc i) k h a b =
 pub leaf-shows : {n : ℕ} {l : List ℕ} → WellFormed n l → (i k : ℕ) → i < length l
     → codeOf (getD l i 0) ≤ k → k < endOf (getD l i 0) → colourAt l k ≡ colourOf (getD l i 0)
 leaf-shows {n} {l} f i k h a b = run-colour n 0 l (4 ^ n) (formed-run f) i k h a b
+
+-- the map's colour at a cell within its square
+pub colour-inside : (n : ℕ) (l : List ℕ) (row column : ℤ) → inside n row column ≡ true → colourIn n l row column ≡ colourAt l (code (natAbs row) (natAbs column))
+unfolding colourIn
+colour-inside n l row column h = rw h

@@ -1,0 +1,4 @@
+pub mod Answers
+pub mod Lists
+pub mod Neighbour
+pub mod laws

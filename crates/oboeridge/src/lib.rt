@@ -1,0 +1,17 @@
+// Oboeridge: calls on maps that are linear quadtrees, each proved for every input.
+//
+// A call judges its own input and requires nothing. It answers what it gives, or a refusal with the paper's No. and number.
+// What each call answers is defined in specs/, one file a call.
+mod answers;
+mod lists;
+mod neighbours;
+
+pub use answers::Counted;
+pub use answers::Looked;
+pub use answers::Near;
+pub use lists::Cell;
+pub use lists::check;
+pub use lists::lookup;
+pub use neighbours::Direction;
+pub use neighbours::neighbour;
+pub use refusal::Refusal;
