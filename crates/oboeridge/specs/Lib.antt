@@ -1,4 +1,7 @@
 pub mod Answers
 pub mod Lists
 pub mod Neighbour
+pub mod Allowed
+pub mod Demands
+pub mod Cases
 pub mod laws

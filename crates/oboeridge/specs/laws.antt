@@ -1,0 +1,4 @@
+pub mod Ways
+pub mod Away
+pub mod Exactly
+pub mod OneAnswer

@@ -1,6 +1,7 @@
 -- A list is well formed for n if its leaves tile the square of size n in code order.
 use mathlib.Core.Path.{_≡_}
 use mathlib.Core.List.{List}
+use mathlib.Core.Logic.{_⊎_}
 use Prim.Native.Nat.{ℕ, zero, suc, _%_, _^_, _<_, _≤_}
 use lib.ListN.{length, getD}
 use Rattle.tiling.specs.Leaf.{codeOf, levelOf, endOf}
@@ -25,3 +26,8 @@ RightAt n l i = Right n (endBefore l i) (getD l i 0)
 pub record WellFormed (n : ℕ) (l : List ℕ) : Type 0 where
   pub right : (i : ℕ) → i < length l → RightAt n l i
   pub ends : endBefore l (length l) ≡ 4 ^ n
+
+-- position i is that of the first wrong entry: all before it are right, and it is wrong, or the list stops short there
+pub record FirstWrong (n : ℕ) (l : List ℕ) (i : ℕ) : Type 0 where
+  pub before : (j : ℕ) → j < i → RightAt n l j
+  pub here : ((i < length l) × (RightAt n l i → ⊥)) ⊎ ((i ≡ length l) × (endBefore l i ≡ 4 ^ n → ⊥))

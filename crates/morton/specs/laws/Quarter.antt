@@ -2,12 +2,13 @@
 use mathlib.Core.Path.{_≡_, refl, sym, ap, ap₂, _∙_}
 use mathlib.Core.Logic.{_↔_}
 use Prim.Native.Nat.{ℕ, zero, suc, _+_, _*_, _-_, _/_, _%_, _^_, _<_, _≤_}
-use native.Mathlib.Nat.{sub-add-cancel, add-mul-div-right, add-mul-mod-self-right, one-le-pow, pow-succ'}
+use native.Mathlib.Nat.{mod-lt, sub-add-cancel, add-mul-div-right, add-mul-mod-self-right, one-le-pow, pow-succ'}
 use native.Mathlib.Omega.{arith}
 use lib.Pow.{pow-pos}
 use lib.Arith.{digits-mod, mod-mul}
-use Rattle.morton.specs.Code.{interleaved, spread}
-use Rattle.morton.specs.laws.Code.{code-split}
+use Rattle.morton.specs.Code.{interleaved, spread, rowOf, columnOf}
+use Rattle.morton.specs.laws.Code.{code-split, code-low, code-injective}
+use Rattle.morton.specs.laws.Cell.{code-of-cell}
 use Rattle.morton.specs.laws.Spread.{code-spread, spread-mod}
 use Rattle.morton.specs.laws.Square.{within, quotient, square-block, block-square}
 
@@ -32,6 +33,16 @@ code-multiple b L r c h hr hc =
     ap (λ (m : ℕ). interleaved m r c % 4 ^ L) (sym (sub-add-cancel h))
     ∙ rw (code-split (b - L) L r c, code-aligned L r c hr hc)
     (digits-mod (interleaved (b - L) (r / 2 ^ L) (c / 2 ^ L)) {r = 0} (one-le-pow L 4 (omega arith)))
+
+-- the other way round: the row and the column of a block's code are multiples of its side
+pub cell-multiple : (L k : ℕ) → L ≤ 16 → k < 4 ^ 16 → k % 4 ^ L ≡ 0 → (rowOf k % 2 ^ L ≡ 0) × (columnOf k % 2 ^ L ≡ 0)
+cell-multiple L k h lt e =
+    let r : ℕ = rowOf k in
+    let c : ℕ = columnOf k in
+    let low : interleaved 16 r c % 4 ^ L ≡ interleaved L r c = ap (λ (m : ℕ). interleaved m r c % 4 ^ L) (sym (sub-add-cancel h)) ∙ code-low (16 - L) L r c in
+    let none : interleaved L r c ≡ 0 = sym low ∙ ap (λ (x : ℕ). x % 4 ^ L) (code-of-cell k lt) ∙ e in
+    code-injective L (r % 2 ^ L) (c % 2 ^ L) 0 0 (mod-lt r (pow-pos L)) (mod-lt c (pow-pos L)) (pow-pos L) (pow-pos L)
+    (code-mod L r c ∙ none ∙ sym (code-zero L))
 
 -- the codes of the block of level L at an aligned cell are those of the cells of the square of side 2 ^ L there
 pub block-cells : (b L r c r' c' : ℕ) → L ≤ b → r % 2 ^ L ≡ 0 → c % 2 ^ L ≡ 0 → r < 2 ^ b → c < 2 ^ b → r' < 2 ^ b → c' < 2 ^ b

@@ -11,19 +11,14 @@ use lib.Dec.{eqb}
 use lib.ListN.{length, getD}
 use borrow.Author.Tests.{eqb-false}
 use Rattle.tiling.specs.Leaf.{endOf}
-use Rattle.tiling.specs.WellFormed.{Right, RightAt, endBefore, WellFormed}
+use Rattle.tiling.specs.WellFormed.{Right, RightAt, endBefore, WellFormed, FirstWrong}
 use Rattle.tiling.specs.Check.{rightEntry, checkedFrom, checked}
 use Rattle.tiling.specs.declared.Checked.{Checked}
 use Rattle.tiling.specs.declared.Checked.the-variants.{Tiles, Wrong}
 use Rattle.tiling.specs.laws.Run.{endFrom, end-next, from-zero}
 use Rattle.tiling.specs.laws.Check.{entry-right, right-entry, tiles-formed}
 
--- all entries before position i are right, and the one there is wrong, or the list stops short there
-pub record FirstWrong (n : ℕ) (l : List ℕ) (i : ℕ) : Type 0 where
-  pub before : (j : ℕ) → j < i → RightAt n l j
-  pub here : ((i < length l) × (RightAt n l i → ⊥)) ⊎ ((i ≡ length l) × (endBefore l i ≡ 4 ^ n → ⊥))
-
--- the same of a list that begins at e, which the walk from the front finds d places on
+-- the first wrong entry of a list that begins at e, which the walk from the front finds d places on
 record WrongFrom (n e : ℕ) (l : List ℕ) (i j : ℕ) : Type 0 where
   d : ℕ
   place : j ≡ i + d

@@ -3,7 +3,7 @@ use mathlib.Core.Path.{sym, _∙_}
 use borrow.Author.Needs.{needs}
 use Rattle.oboeridge.proofs.lists.check.Statement.{statement}
 use Rattle.oboeridge.proofs.lists.check.Tie as tie
-use Rattle.oboeridge.proofs.Ways.{check-size, check-wrong, check-gives}
+use Rattle.oboeridge.specs.laws.Ways.{check-size, check-wrong, check-gives}
 
 returns : tie.Need-returns
 returns c = check-size _ _ (c .if1 .taken)

@@ -14,7 +14,7 @@ use Rattle.tiling.specs.Check.{checked}
 use Rattle.tiling.specs.declared.Checked.the-variants.{Tiles}
 use Rattle.tiling.specs.laws.Signed.{held}
 use Rattle.tiling.specs.laws.Check.{tiles-formed}
-use Rattle.oboeridge.proofs.Ways.{lookup-size, lookup-wrong, lookup-outside, lookup-gives}
+use Rattle.oboeridge.specs.laws.Ways.{lookup-size, lookup-wrong, lookup-outside, lookup-gives}
 
 returns : tie.Need-returns
 returns c = lookup-size _ _ _ _ (c .if1 .taken)

@@ -15,10 +15,9 @@ use Rattle.morton.specs.laws.Cell.{gathered-lt}
 use Rattle.tiling.specs.Map.{inside}
 use Rattle.tiling.specs.laws.Tests.{and-both}
 use Rattle.tiling.specs.laws.Signed.{held}
-use Rattle.oboeridge.specs.declared.neighbours.Direction.{Direction}
-use Rattle.oboeridge.specs.declared.neighbours.Direction.the-variants.{North, NorthEast, East, SouthEast, South, SouthWest, West, NorthWest}
 use Rattle.oboeridge.specs.Neighbour.{isBlock, southward, eastward, rowAway, columnAway}
-use Rattle.oboeridge.proofs.Ways.{neighbour-size, neighbour-block, neighbour-outside, neighbour-gives}
+use Rattle.oboeridge.specs.laws.Away.{south-once, east-once, once-le}
+use Rattle.oboeridge.specs.laws.Ways.{neighbour-size, neighbour-block, neighbour-outside, neighbour-gives}
 
 returns : tie.Need-returns
 returns c = neighbour-size _ _ _ _ (c .if1 .taken)
@@ -44,31 +43,10 @@ row-of-requires c κs = search needs
 southward-requires : tie.Need-southward-requires
 southward-requires c κs = search needs
 
--- a direction leads at most one side each way
-south-once : (d : Direction) → natAbs (southward d) ≤ 1
-south-once North = omega arith
-south-once NorthEast = omega arith
-south-once East = omega arith
-south-once SouthEast = omega arith
-south-once South = omega arith
-south-once SouthWest = omega arith
-south-once West = omega arith
-south-once NorthWest = omega arith
-
-east-once : (d : Direction) → natAbs (eastward d) ≤ 1
-east-once North = omega arith
-east-once NorthEast = omega arith
-east-once East = omega arith
-east-once SouthEast = omega arith
-east-once South = omega arith
-east-once SouthWest = omega arith
-east-once West = omega arith
-east-once NorthWest = omega arith
-
 stepped-requires : tie.Need-stepped-requires
 stepped-requires c κs =
     rw (held _ (c .southward .ok), c .southward .ensures, c .before .row-of .ensures)
-    (gathered-lt 16 _, south-once (c .before .before .before .before .before .before .args .direction), c .before .before .side .ensures .high)
+    (gathered-lt 16 _, once-le _ (south-once (c .before .before .before .before .before .before .args .direction)), c .before .before .side .ensures .high)
 
 column-of-requires : tie.Need-column-of-requires
 column-of-requires c κs = search needs
@@ -79,7 +57,7 @@ eastward-requires c κs = search needs
 stepped-requires-2 : tie.Need-stepped-requires-2
 stepped-requires-2 c κs =
     rw (held _ (c .eastward .ok), c .eastward .ensures, c .before .column-of .ensures)
-    (gathered-lt 16 _, east-once (c .before .before .before .before .before .before .before .before .before .args .direction), c .before .before .before .before .before .side .ensures .high)
+    (gathered-lt 16 _, once-le _ (east-once (c .before .before .before .before .before .before .before .before .before .args .direction)), c .before .before .before .before .before .side .ensures .high)
 
 inside-requires : tie.Need-inside-requires
 inside-requires c κs = search needs
