@@ -1,0 +1,149 @@
+// The worked cases, run: each line says what was asked and what the call answers. The file `stdout` beside this folder holds
+// what the paper says that they answer.
+use oboeridge::Cell;
+use oboeridge::Counted;
+use oboeridge::Direction;
+use oboeridge::Looked;
+use oboeridge::Near;
+use oboeridge::Refusal;
+
+fn say(text: &[u8]) {
+    io::write_all(1, text);
+}
+
+fn given(value: u64) {
+    say(b": ");
+    io::print_decimal(1, value);
+    say(b"\n");
+}
+
+fn refused(r: Refusal) {
+    say(b": refusal ");
+    io::print_decimal(1, r.rule);
+    say(b", number ");
+    io::print_decimal(1, r.number);
+    say(b"\n");
+}
+
+fn check(what: &[u8], n: u64, list: &[u64]) {
+    say(b"list check, ");
+    say(what);
+    match oboeridge::check(n, list) {
+        Counted::Count(k) => given(k),
+        Counted::Refused(r) => refused(r),
+    }
+}
+
+fn lookup(what: &[u8], n: u64, list: &[u64], cell: Cell) {
+    say(b"lookup, ");
+    say(what);
+    match oboeridge::lookup(n, list, cell) {
+        Looked::Colour(c) => given(c as u64),
+        Looked::Refused(r) => refused(r),
+    }
+}
+
+fn neighbour(what: &[u8], n: u64, code: u64, level: u64, direction: Direction) {
+    say(b"neighbour, ");
+    say(what);
+    match oboeridge::neighbour(n, code, level, direction) {
+        Near::Code(k) => given(k),
+        Near::Refused(r) => refused(r),
+    }
+}
+
+fn checks(picture: &[u64]) {
+    check(b"P", 2, picture);
+    check(b"four alike brothers", 1, &[1, 65537, 131073, 196609]);
+    check(b"three leaves of four", 1, &[0, 65536, 131072]);
+    check(b"the empty list", 1, &[]);
+    check(b"a block larger than the map", 1, &[512]);
+    check(b"a block astride two", 2, &[0, 65792]);
+    check(b"an entry past the square", 0, &[0, 65536]);
+    check(b"size 12", 12, &[3072]);
+    check(b"size 13", 13, &[3328]);
+}
+
+fn lookups(picture: &[u64]) {
+    lookup(
+        b"P at row 0, column 1",
+        2,
+        picture,
+        Cell { row: 0, column: 1 },
+    );
+    lookup(
+        b"P at row 0, column 2",
+        2,
+        picture,
+        Cell { row: 0, column: 2 },
+    );
+    lookup(
+        b"P at row 1, column 3",
+        2,
+        picture,
+        Cell { row: 1, column: 3 },
+    );
+    lookup(
+        b"P at row -1, column 0",
+        2,
+        picture,
+        Cell { row: -1, column: 0 },
+    );
+    lookup(
+        b"P at row 0, column 4",
+        2,
+        picture,
+        Cell { row: 0, column: 4 },
+    );
+    lookup(
+        b"a list that stops short",
+        1,
+        &[0],
+        Cell { row: -1, column: 0 },
+    );
+}
+
+fn neighbours() {
+    neighbour(
+        b"east of row 3, column 5 of 8 by 8",
+        3,
+        27,
+        0,
+        Direction::East,
+    );
+    neighbour(b"south of it", 3, 27, 0, Direction::South);
+    neighbour(b"north-west of it", 3, 27, 0, Direction::NorthWest);
+    neighbour(
+        b"north-west of the last quarter",
+        2,
+        12,
+        1,
+        Direction::NorthWest,
+    );
+    neighbour(b"north of the first quarter", 2, 0, 1, Direction::North);
+    neighbour(
+        b"north-east of the second quarter",
+        2,
+        4,
+        1,
+        Direction::NorthEast,
+    );
+    neighbour(
+        b"south-west of the third quarter",
+        2,
+        8,
+        1,
+        Direction::SouthWest,
+    );
+    neighbour(b"of a code that is no quarter's", 2, 2, 1, Direction::East);
+    neighbour(b"of a code past the square", 2, 16, 0, Direction::East);
+    neighbour(b"of a level above the square's", 2, 0, 3, Direction::East);
+    neighbour(b"of size 13", 13, 0, 0, Direction::East);
+}
+
+fn main() {
+    let picture = [257, 262144, 327680, 393216, 458753, 524544, 786689];
+    checks(&picture);
+    lookups(&picture);
+    neighbours();
+}
