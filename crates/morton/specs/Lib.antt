@@ -1,4 +1,5 @@
 pub mod Code
 pub mod Power
 pub mod Spreads
+pub mod Block
 pub mod laws

@@ -4,3 +4,4 @@ pub mod Spread
 pub mod Square
 pub mod Quarter
 pub mod Power
+pub mod Block

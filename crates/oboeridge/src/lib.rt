@@ -3,12 +3,15 @@
 // A call judges its own input and requires nothing. It answers what it gives, or a refusal with the paper's No. and number.
 // What each call answers is defined in specs/, one file a call.
 mod answers;
+mod cells;
 mod lists;
 mod neighbours;
 
 pub use answers::Counted;
 pub use answers::Looked;
 pub use answers::Near;
+pub use cells::to_list;
+pub use cells::to_raster;
 pub use lists::Cell;
 pub use lists::check;
 pub use lists::lookup;

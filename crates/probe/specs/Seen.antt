@@ -3,14 +3,12 @@ use mathlib.Core.Path.{_≡_}
 use mathlib.Core.Bool.{cond}
 use Prim.Native.Nat.{ℕ, _+_, _-_, _/_, _^_, _<_}
 use lib.Dec.{ltb}
+use Rattle.tiling.specs.Leaf.{colours}
 
 -- one colour; or look closer, with a place in the map's list from which to search
 pub data Seen : Type 0 where
   one : ℕ → Seen
   mixed : ℕ → Seen
-
-abbrev pub colours : ℕ
-colours = 256
 
 -- the case that a number stands for
 abbrev pub seenOf : ℕ → Seen

@@ -1,18 +1,17 @@
 // What a square of side 2 ^ level shows, its upper left cell at a row and a column of the map or beyond it.
 //
-// What is known of a map over a square is one number: below COLOURS it is the colour of every cell; from COLOURS on it is
-// COLOURS more than a place in the list, a hint where to search. `Seen` of specs/Seen.antt names the two cases.
+// What is known of a map over a square is one number: below `tiling::COLOURS` it is the colour of every cell; from there on it is
+// that much more than a place in the list, a hint where to search. `Seen` of specs/Seen.antt names the two cases.
 ghost use mathlib.Core.Path.{_≡_};
 ghost use mathlib.Core.Bool.{true};
 ghost use Prim.Native.Nat.{_≤_};
 ghost use lib.IntN.{natAbs};
 ghost use Rattle.morton.specs.Spreads.{Spreads};
 ghost use Rattle.probe.specs.Biased.{biased, reach, cellAbout};
-ghost use Rattle.probe.specs.Seen.{Shows, Covers, Tells, Holds, seenOf, colours};
+ghost use Rattle.probe.specs.Seen.{Shows, Covers, Tells, Holds, seenOf};
+ghost use Rattle.tiling.specs.Leaf.{colours};
 ghost use Rattle.probe.specs.Asked.{cellAt, Cell, Within, Across, About};
-
-// Colours are below this; what is known and is no colour is this much more than a place.
-pub const COLOURS: u64 = 256;
+use tiling::COLOURS;
 
 // A cell beyond a map counts as WHITE.
 pub const BEYOND: u64 = 0;

@@ -18,5 +18,8 @@ abbrev pub endOf : ℕ → ℕ
 endOf w = codeOf w + 4 ^ levelOf w
 
 -- colours are 0 to 255; 0 is WHITE
+abbrev pub colours : ℕ
+colours = 256
+
 abbrev pub white : ℕ
 white = 0

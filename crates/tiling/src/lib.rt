@@ -15,6 +15,9 @@ ghost use Rattle.tiling.specs.Check.{rightEntry, checked};
 // The largest size of a map.
 pub const LIMIT: u64 = 12;
 
+// Colours are below this.
+pub const COLOURS: u64 = 256;
+
 // The word of a leaf.
 pub fn leaf(code: u64, level: u64, colour: u8) -> u64
     requires { ⌜ (code < 4 ^ highest) × (level ≤ highest) ⌝ }

@@ -6,7 +6,7 @@ use Prim.Native.Nat.{ℕ, _%_, _^_, _<_, _≤_}
 use lib.Dec.{leb, ltb, eqb}
 use lib.IntN.{ℤ, natAbs}
 use lib.ListN.{length}
-use borrow.Author.Tests.{lt-ltb, le-ltb}
+use borrow.Author.Tests.{lt-ltb, le-ltb, eq-eqb, ne-eqb}
 use Rattle.refusal.specs.Rules as rule
 use Rattle.refusal.specs.Answer.{Answer, gives, refuses}
 use Rattle.morton.specs.Code.{code}
@@ -14,6 +14,10 @@ use Rattle.tiling.specs.Map.{limit, inside, colourIn}
 use Rattle.tiling.specs.Check.{checked}
 use Rattle.tiling.specs.declared.Checked.the-variants.{Tiles, Wrong}
 use Rattle.oboeridge.specs.Lists.{listCheck, cellLookup}
+use Rattle.shortest.specs.Shortest.{shortest}
+use Rattle.shortest.specs.Outcome.{fitting}
+use Rattle.rasters.specs.Raster.{pixel, rasterOf}
+use Rattle.oboeridge.specs.Rasters.{rasterToList, listToRaster}
 use Rattle.oboeridge.specs.Neighbour.{isBlock, rowAway, columnAway, neighbour}
 use Rattle.oboeridge.specs.declared.neighbours.Direction.{Direction}
 
@@ -68,3 +72,36 @@ module _ (n k level : ℕ) (d : Direction) where
           → gives (code (natAbs (rowAway k level d)) (natAbs (columnAway k level d))) ≡ neighbour n k level d
       unfolding neighbour
       neighbour-gives h = rw (le-ltb limit n hn, b, h)
+
+module _ (n : ℕ) (cells : List ℕ) (space : ℕ) where
+  pub list-size : limit < n → rasterToList n cells space ≡ refuses rule.size 0
+  unfolding rasterToList
+  list-size h = rw (lt-ltb limit n h)
+
+  module _ (hn : n ≤ limit) where
+    pub list-length : (length cells ≡ 4 ^ n → ⊥) → rasterToList n cells space ≡ refuses rule.rasterLength 0
+    unfolding rasterToList
+    list-length h = rw (le-ltb limit n hn, ne-eqb (length cells) (4 ^ n) h)
+
+    pub list-fits : length cells ≡ 4 ^ n → rasterToList n cells space ≡ fitting (shortest (pixel n cells) n 0) space
+    unfolding rasterToList
+    list-fits h = rw (le-ltb limit n hn, eq-eqb (length cells) (4 ^ n) h)
+
+module _ (n : ℕ) (l : List ℕ) (space : ℕ) where
+  pub raster-size : limit < n → listToRaster n l space ≡ refuses rule.size 0
+  unfolding listToRaster
+  raster-size h = rw (lt-ltb limit n h)
+
+  module _ (hn : n ≤ limit) where
+    pub raster-wrong-length : (space ≡ 4 ^ n → ⊥) → listToRaster n l space ≡ refuses rule.rasterLength 0
+    unfolding listToRaster
+    raster-wrong-length h = rw (le-ltb limit n hn, ne-eqb space (4 ^ n) h)
+
+    module _ (h : space ≡ 4 ^ n) where
+      pub raster-wrong : (i : ℕ) → checked n l ≡ Wrong i → listToRaster n l space ≡ refuses rule.firstList i
+      unfolding listToRaster
+      raster-wrong i e = rw (le-ltb limit n hn, eq-eqb space (4 ^ n) h, e)
+
+      pub raster-gives : checked n l ≡ Tiles → listToRaster n l space ≡ gives (rasterOf n l)
+      unfolding listToRaster
+      raster-gives e = rw (le-ltb limit n hn, eq-eqb space (4 ^ n) h, e)

@@ -7,9 +7,10 @@ use Prim.Native.Nat.{ℕ, zero, suc, _+_, _-_, _^_, _<_, _≤_}
 use native.Mathlib.Omega.{arith}
 use lib.Dec.{leb, ltb}
 use borrow.Author.Tests.{lt-ltb, le-ltb, le-leb, lt-leb, leb-true, leb-false, ltb-true, ltb-false}
+use Rattle.tiling.specs.Leaf.{colours}
 use Rattle.tiling.specs.Map.{beyond}
 use Rattle.tiling.specs.laws.Tests.{or-either, or-neither}
-use Rattle.probe.specs.Seen.{Seen, one, mixed, seenOf, colours, Shows, Tells, Holds}
+use Rattle.probe.specs.Seen.{Seen, one, mixed, seenOf, Shows, Tells, Holds}
 use Rattle.probe.specs.Biased.{bias, withinB, cellAbout}
 use Rattle.probe.specs.Asked.{cellAt, Within, About}
 

@@ -36,7 +36,7 @@ module _ (n : ℕ) (l : List ℕ) (row column : ℕ) (h : Cell n l row column) w
 
   module _ (at : ℕ) (f : Found l (code row column) at) where
     -- a cell in the leaf's aligned square has the leaf's colour
-    leaf-cell : (r c : ℕ) → r / 2 ^ levelOf (getD l at 0) ≡ row / 2 ^ levelOf (getD l at 0)
+    pub leaf-cell : (r c : ℕ) → r / 2 ^ levelOf (getD l at 0) ≡ row / 2 ^ levelOf (getD l at 0)
         → c / 2 ^ levelOf (getD l at 0) ≡ column / 2 ^ levelOf (getD l at 0) → cellAt l r c ≡ colourOf (getD l at 0)
     leaf-cell r c hr hc =
         let w = getD l at 0 in

@@ -1,14 +1,15 @@
 -- The colour of a code is that of the one leaf in which it lies.
-use mathlib.Core.Path.{_≡_}
-use mathlib.Core.Bool.{true}
+use mathlib.Core.Path.{_≡_, refl}
+use mathlib.Core.Bool.{Bool, true, false, cond}
 use mathlib.Core.List.{List, [], _∷_}
 use Prim.Native.Nat.{ℕ, zero, suc, _+_, _/_, _%_, _^_, _<_, _≤_}
 use native.Mathlib.Nat.{not-suc-le-zero, le-of-suc-le-suc}
 use native.Mathlib.Omega.{arith}
+use lib.Dec.{ltb}
 use lib.IntN.{ℤ, natAbs}
 use lib.ListN.{length, getD}
 use borrow.Author.Tests.{lt-ltb, le-ltb}
-use Rattle.tiling.specs.Leaf.{codeOf, colourOf, endOf}
+use Rattle.tiling.specs.Leaf.{codeOf, colourOf, endOf, colours}
 use Rattle.morton.specs.Code.{code}
 use Rattle.tiling.specs.Map.{colourAt, inside, colourIn}
 use Rattle.tiling.specs.WellFormed.{WellFormed}
@@ -31,3 +32,13 @@ leaf-shows {n} {l} f i k h a b = run-colour n 0 l (4 ^ n) (formed-run f) i k h a
 pub colour-inside : (n : ℕ) (l : List ℕ) (row column : ℤ) → inside n row column ≡ true → colourIn n l row column ≡ colourAt l (code (natAbs row) (natAbs column))
 unfolding colourIn
 colour-inside n l row column h = rw h
+
+-- colours are below 256
+pub colour-lt : (l : List ℕ) (k : ℕ) → colourAt l k < colours
+unfolding colourAt
+colour-lt [] k = omega arith
+colour-lt (w ∷ ws) k = go (ltb k (endOf w)) refl (colour-lt ws k)
+  where
+    go : (b : Bool) → ltb k (endOf w) ≡ b → colourAt ws k < colours → cond b (colourOf w) (colourAt ws k) < colours
+    go true e h = omega arith
+    go false e h = h

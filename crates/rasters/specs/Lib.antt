@@ -1,0 +1,4 @@
+pub mod Raster
+pub mod Listing
+pub mod Runs
+pub mod laws

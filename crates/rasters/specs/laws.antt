@@ -1,0 +1,4 @@
+pub mod Pixel
+pub mod Places
+pub mod Runs
+pub mod RoundTrip

@@ -1,0 +1,9 @@
+pub mod Power
+pub mod Flat
+pub mod Paint
+pub mod Tiling
+pub mod Part
+pub mod Written
+pub mod Quarters
+pub mod Outcome
+pub mod Only
