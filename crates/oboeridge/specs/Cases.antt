@@ -1,4 +1,4 @@
--- Worked cases of the calls on one list and of the neighbour, in one table that antt computes.
+-- Worked cases, in two tables that antt computes.
 use mathlib.Core.Path.{_≡_, refl}
 use mathlib.Core.List.{List, [], _∷_}
 use Prim.Native.Nat.{ℕ}
@@ -7,6 +7,10 @@ use Rattle.refusal.specs.Answer.{Answer, gives, refuses}
 use Rattle.morton.specs.Code.{interleaved, gathered}
 use Rattle.tiling.specs.Map.{colourAt, colourIn}
 use Rattle.tiling.specs.Check.{checkedFrom}
+use Rattle.shortest.specs.Shortest.{shortest, uniform, all}
+use Rattle.shortest.specs.Outcome.{Outcome}
+use Rattle.rasters.specs.Raster.{pixel, places, rasterOf}
+use Rattle.oboeridge.specs.Rasters.{rasterToList, listToRaster}
 use Rattle.oboeridge.specs.Lists.{listCheck, cellLookup}
 use Rattle.oboeridge.specs.Neighbour.{neighbour}
 use Rattle.oboeridge.specs.declared.neighbours.Direction.the-variants.{North, NorthEast, East, South, SouthWest, NorthWest}
@@ -76,3 +80,40 @@ pub cases :
     ∷ []
 unfolding listCheck cellLookup neighbour checkedFrom colourIn colourAt interleaved gathered
 cases = refl
+
+-- P as a raster
+abbrev cells : List ℕ
+cells = 1 ∷ 1 ∷ 0 ∷ 0 ∷ 1 ∷ 1 ∷ 0 ∷ 1 ∷ 0 ∷ 0 ∷ 1 ∷ 1 ∷ 0 ∷ 0 ∷ 1 ∷ 1 ∷ []
+
+-- raster to list and back: with room, with exactly enough, with too little; an unmerged list comes out merged
+abbrev outcomes : List Outcome
+outcomes =
+    rasterToList 2 cells 16
+    ∷ rasterToList 2 cells 7
+    ∷ rasterToList 2 cells 6
+    ∷ rasterToList 1 cells 16
+    ∷ rasterToList 0 (5 ∷ []) 1
+    ∷ rasterToList 13 [] 0
+    ∷ listToRaster 2 P 16
+    ∷ listToRaster 2 P 15
+    ∷ listToRaster 1 (0 ∷ []) 4
+    ∷ listToRaster 1 (1 ∷ 65537 ∷ 131073 ∷ 196609 ∷ []) 4
+    ∷ rasterToList 1 (1 ∷ 1 ∷ 1 ∷ 1 ∷ []) 1
+    ∷ []
+
+pub rasters :
+    outcomes
+    ≡ gives P
+    ∷ gives P
+    ∷ refuses 5 7
+    ∷ refuses 10 0
+    ∷ gives (5 ∷ [])
+    ∷ refuses 1 0
+    ∷ gives cells
+    ∷ refuses 10 0
+    ∷ refuses 3 1
+    ∷ gives (1 ∷ 1 ∷ 1 ∷ 1 ∷ [])
+    ∷ gives (257 ∷ [])
+    ∷ []
+unfolding rasterToList listToRaster shortest uniform all pixel rasterOf places checkedFrom colourAt interleaved gathered
+rasters = refl

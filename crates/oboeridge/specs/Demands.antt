@@ -2,15 +2,24 @@
 use mathlib.Core.Path.{_≡_, subst}
 use mathlib.Core.List.{List}
 use mathlib.Core.Logic.{_↔_}
-use Prim.Native.Nat.{ℕ}
+use Prim.Native.Nat.{ℕ, _^_, _<_}
 use lib.IntN.{ℤ}
-use Rattle.refusal.specs.Answer.{Answer}
+use lib.ListN.{length}
+use Rattle.refusal.specs.Answer.{Answer, gives}
+use Rattle.tiling.specs.Leaf.{colours}
+use Rattle.tiling.specs.Map.{colourAt}
+use Rattle.shortest.specs.Shortest.{shortest}
+use Rattle.shortest.specs.Demand.{IsShortest}
+use Rattle.shortest.specs.Outcome.{Outcome, fitting}
+use Rattle.rasters.specs.Raster.{pixel}
 use Rattle.oboeridge.specs.Answers.{counted, looked, near}
 use Rattle.oboeridge.specs.Lists.{listCheck, cellLookup}
 use Rattle.oboeridge.specs.Neighbour.{neighbour}
-use Rattle.oboeridge.specs.Allowed.{Checks, Looks, Nears}
+use Rattle.oboeridge.specs.Rasters.{rasterToList, listToRaster}
+use Rattle.oboeridge.specs.Allowed.{Checks, Looks, Nears, Lists, Rasters}
 use Rattle.oboeridge.specs.laws.OneAnswer as one
 use Rattle.oboeridge.specs.laws.Exactly.{checks, from-checks, looks-up, from-looks, nears-by, from-nears}
+use Rattle.oboeridge.specs.laws.Cells.{lists, from-lists, rasters, from-rasters, list-back, raster-back, raster-same}
 use Rattle.oboeridge.specs.declared.neighbours.Direction.{Direction}
 use Rattle.oboeridge.specs.declared.answers.Counted.{Counted}
 use Rattle.oboeridge.specs.declared.answers.Looked.{Looked}
@@ -35,3 +44,24 @@ lookup-exactly n l row column a = (λ e. subst (λ x. Looks n l row column x) e 
 
 pub neighbour-exactly : (n k level : ℕ) (d : Direction) (a : Answer ℕ) → (neighbour n k level d ≡ a) ↔ Nears n k level d a
 neighbour-exactly n k level d a = (λ e. subst (λ x. Nears n k level d x) e (nears-by n k level d), from-nears n k level d a)
+
+pub list-exactly : (n : ℕ) (cells : List ℕ) (space : ℕ) → ((j : ℕ) → pixel n cells j < colours) → (a : Outcome)
+    → (rasterToList n cells space ≡ a) ↔ Lists n cells space a
+list-exactly n cells space coloured a = (λ e. subst (λ x. Lists n cells space x) e (lists n cells space coloured), from-lists n cells space coloured a)
+
+pub raster-exactly : (n : ℕ) (l : List ℕ) (space : ℕ) (a : Outcome) → (listToRaster n l space ≡ a) ↔ Rasters n l space a
+raster-exactly n l space a = (λ e. subst (λ x. Rasters n l space x) e (rasters n l space), from-rasters n l space a)
+
+-- A raster's list gives the raster back.
+pub list-and-back : (n : ℕ) (cells : List ℕ) (space : ℕ) (l : List ℕ) → ((j : ℕ) → pixel n cells j < colours)
+    → rasterToList n cells space ≡ gives l → listToRaster n l (4 ^ n) ≡ gives cells
+list-and-back = list-back
+
+-- A list's raster gives the shortest list of the list's picture back, and the list itself exactly if it was the shortest.
+pub raster-and-back : (n : ℕ) (l : List ℕ) (space : ℕ) (cells : List ℕ) (room : ℕ) → listToRaster n l space ≡ gives cells
+    → rasterToList n cells room ≡ fitting (shortest (colourAt l) n 0) room
+raster-and-back = raster-back
+
+pub raster-and-same : (n : ℕ) (l : List ℕ) (space : ℕ) (cells : List ℕ) → listToRaster n l space ≡ gives cells
+    → (rasterToList n cells (length l) ≡ gives l) ↔ IsShortest (colourAt l) n l
+raster-and-same = raster-same

@@ -82,10 +82,10 @@ pub fn finish(
     ensures part { λ r. ⌜ r ≡ joined p0 p1 p2 p3 ⌝ }
     ensures left { λ _. ⌜ now (out .exit) ≡ finished (now (out .entry)) at p0 p1 p2 p3 code level ⌝ }
 {
-    let p = joined(p0, p1, p2, p3);
-    if p < COLOURS {
-        return p;
+    let part = joined(p0, p1, p2, p3);
+    if part < COLOURS {
+        return part;
     }
     settle(out, at, p0, p1, p2, p3, code, level);
-    p
+    part
 }

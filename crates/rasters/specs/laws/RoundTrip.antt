@@ -27,7 +27,7 @@ module _ (n : ℕ) (low : n ≤ highest) where
   wide = pow-mono low
 
   -- the row and the column of a place
-  place-row : (i : ℕ) → i < 4 ^ n → (i / 2 ^ n < 2 ^ n) × (i % 2 ^ n < 2 ^ n)
+  pub place-row : (i : ℕ) → i < 4 ^ n → (i / 2 ^ n < 2 ^ n) × (i % 2 ^ n < 2 ^ n)
   place-row i h = (div-lt-iff-lt-mul {k = 2 ^ n} {x = i} {y = 2 ^ n} (pow-pos n) .1 (rw (square n) h), mod-lt i (pow-pos n))
 
   module _ (cells : List ℕ) (len : length cells ≡ 4 ^ n) (coloured : (j : ℕ) → pixel n cells j < colours) where
