@@ -52,14 +52,72 @@ fn neighbour(what: &[u8], n: u64, code: u64, level: u64, direction: Direction) {
     }
 }
 
+fn words(list: &[u64]) {
+    let mut i = 0;
+    while i < list.len() {
+        say(b" ");
+        io::print_decimal(1, list[i]);
+        i += 1;
+    }
+    say(b"\n");
+}
+
+// The list of a raster, and what is then left in the space lent, which held nines.
+fn to_list<'a>(what: &'a [u8], n: u64, cells: &'a [u8], lent: &mut [u64]) {
+    say(b"raster to list, ");
+    say(what);
+    match oboeridge::to_list(n, cells, lent) {
+        Counted::Count(k) => given(k),
+        Counted::Refused(r) => refused(r),
+    }
+    say(b"  left:");
+    words(lent);
+}
+
+fn to_raster<'a>(what: &'a [u8], n: u64, list: &'a [u64]) {
+    say(b"list to raster, ");
+    say(what);
+    let mut cells = [9u8; 16];
+    match oboeridge::to_raster(n, list, &mut cells) {
+        Counted::Count(k) => given(k),
+        Counted::Refused(r) => refused(r),
+    }
+}
+
+fn lists() {
+    let cells = [1, 1, 0, 0, 1, 1, 0, 1, 0, 0, 1, 1, 0, 0, 1, 1];
+    to_list(b"P with room for 9", 2, &cells, &mut [9u64; 9]);
+    to_list(b"P with room for 7", 2, &cells, &mut [9u64; 7]);
+    to_list(b"P with room for 6", 2, &cells, &mut [9u64; 6]);
+    to_list(b"16 cells for size 1", 1, &cells, &mut [9u64; 4]);
+    to_list(
+        b"one colour with room for 1",
+        1,
+        &[1, 1, 1, 1],
+        &mut [9u64; 1],
+    );
+}
+
+fn rasters(picture: &[u64]) {
+    to_raster(b"P", 2, picture);
+    to_raster(b"16 cells for size 1", 1, &[257]);
+    to_raster(b"a list that stops short", 2, &[257]);
+}
+
 fn checks(picture: &[u64]) {
     check(b"P", 2, picture);
     check(b"four alike brothers", 1, &[1, 65537, 131073, 196609]);
     check(b"three leaves of four", 1, &[0, 65536, 131072]);
     check(b"the empty list", 1, &[]);
+}
+
+fn more_checks() {
     check(b"a block larger than the map", 1, &[512]);
     check(b"a block astride two", 2, &[0, 65792]);
     check(b"an entry past the square", 0, &[0, 65536]);
+}
+
+fn sizes() {
     check(b"size 12", 12, &[3072]);
     check(b"size 13", 13, &[3328]);
 }
@@ -120,6 +178,9 @@ fn neighbours() {
         1,
         Direction::NorthWest,
     );
+}
+
+fn edges() {
     neighbour(b"north of the first quarter", 2, 0, 1, Direction::North);
     neighbour(
         b"north-east of the second quarter",
@@ -135,6 +196,9 @@ fn neighbours() {
         1,
         Direction::SouthWest,
     );
+}
+
+fn addresses() {
     neighbour(b"of a code that is no quarter's", 2, 2, 1, Direction::East);
     neighbour(b"of a code past the square", 2, 16, 0, Direction::East);
     neighbour(b"of a level above the square's", 2, 0, 3, Direction::East);
@@ -144,6 +208,12 @@ fn neighbours() {
 fn main() {
     let picture = [257, 262144, 327680, 393216, 458753, 524544, 786689];
     checks(&picture);
+    more_checks();
+    sizes();
     lookups(&picture);
     neighbours();
+    edges();
+    addresses();
+    lists();
+    rasters(&picture);
 }
