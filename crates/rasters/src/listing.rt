@@ -31,7 +31,19 @@ fn count_cells(n: u64, cells: &[u8], y: u64, x: u64) -> u64
     shortest::joined(nw, ne, sw, se)
 }
 
-// What the block of the level at row y and column x comes to.
+// What a block of sixteen cells comes to.
+fn count_squares(n: u64, cells: &[u8], y: u64, x: u64) -> u64
+    requires { ⌜ Counts n (now cells) (code y x) y x 2 ⌝ }
+    ensures { λ r. ⌜ r ≡ part (pixel n (now (cells .entry))) 2 (code y x) ⌝ }
+{
+    let nw = count_cells(n, cells, y, x);
+    let ne = count_cells(n, cells, y, x + 2);
+    let sw = count_cells(n, cells, y + 2, x);
+    let se = count_cells(n, cells, y + 2, x + 2);
+    shortest::joined(nw, ne, sw, se)
+}
+
+// What the block of the level at row y and column x comes to. Most calls would be for four cells or for one, so the recursion ends at sixteen.
 fn count(n: u64, cells: &[u8], y: u64, x: u64, level: u64) -> u64
     requires { ⌜ Counts n (now cells) (code y x) y x level ⌝ }
     ensures { λ r. ⌜ r ≡ part (pixel n (now (cells .entry))) level (code y x) ⌝ }
@@ -41,6 +53,9 @@ fn count(n: u64, cells: &[u8], y: u64, x: u64, level: u64) -> u64
     }
     if level == 1 {
         return count_cells(n, cells, y, x);
+    }
+    if level == 2 {
+        return count_squares(n, cells, y, x);
     }
     let l = level - 1;
     let side = morton::side(l);
@@ -64,6 +79,22 @@ fn put_cells(n: u64, cells: &[u8], out: &mut [u64], at: u64, code: u64, y: u64, 
     shortest::finish(out, at, nw, ne, sw, se, code, 0)
 }
 
+// Writes the list of a block of sixteen cells from `at` on, or nothing if they are of one colour; what the block comes to.
+fn put_squares(n: u64, cells: &[u8], out: &mut [u64], at: u64, code: u64, y: u64, x: u64) -> u64
+    requires { ⌜ Puts n (now cells) (now out) at code y x 2 ⌝ }
+    ensures part { λ r. ⌜ r ≡ part (pixel n (now (cells .entry))) 2 code ⌝ }
+    ensures left { λ _. ⌜ now (out .exit) ≡ sets (now (out .entry)) at (inner (pixel n (now (cells .entry))) 2 code) ⌝ }
+{
+    let nw = put_cells(n, cells, out, at, code, y, x);
+    let second = at + shortest::size(nw);
+    let ne = put_cells(n, cells, out, second, code + 4, y, x + 2);
+    let third = second + shortest::size(ne);
+    let sw = put_cells(n, cells, out, third, code + 8, y + 2, x);
+    let fourth = third + shortest::size(sw);
+    let se = put_cells(n, cells, out, fourth, code + 12, y + 2, x + 2);
+    shortest::finish(out, at, nw, ne, sw, se, code, 1)
+}
+
 // Writes the list of the block of the level from `at` on, or nothing if it is of one colour; what the block comes to.
 fn put(n: u64, cells: &[u8], out: &mut [u64], at: u64, code: u64, y: u64, x: u64, level: u64) -> u64
     requires { ⌜ Puts n (now cells) (now out) at code y x level ⌝ }
@@ -75,6 +106,9 @@ fn put(n: u64, cells: &[u8], out: &mut [u64], at: u64, code: u64, y: u64, x: u64
     }
     if level == 1 {
         return put_cells(n, cells, out, at, code, y, x);
+    }
+    if level == 2 {
+        return put_squares(n, cells, out, at, code, y, x);
     }
     let l = level - 1;
     let side = morton::side(l);
