@@ -8,6 +8,15 @@ use lib.ListN.{length}
 use Rattle.refusal.specs.Answer.{Answer, gives}
 use Rattle.tiling.specs.Leaf.{colours}
 use Rattle.tiling.specs.Map.{colourAt}
+use Rattle.place.specs.Answer.{answered}
+use Rattle.place.specs.Placing.{placed}
+use Rattle.place.specs.Allowed.{Places, Lies}
+use Rattle.place.specs.laws.Exactly.{places, from-places, lies, from-lies}
+use Rattle.place.specs.declared.Ground.{Ground}
+use Rattle.place.specs.declared.Place.{Place}
+use Rattle.place.specs.declared.Place.the-variants.{OnGround}
+use Rattle.place.specs.declared.Placed.{Placed}
+use Rattle.place.specs.declared.Shift.{Shift}
 use Rattle.shortest.specs.Shortest.{shortest}
 use Rattle.shortest.specs.Demand.{IsShortest}
 use Rattle.shortest.specs.Outcome.{Outcome, fitting}
@@ -35,6 +44,9 @@ one-looked = one.one-looked
 pub one-near : (a : Answer ℕ) (r s : Near) → near r ≡ a → near s ≡ a → r ≡ s
 one-near = one.one-near
 
+pub one-placed : (a : Answer Shift) (r s : Placed) → answered r ≡ a → answered s ≡ a → r ≡ s
+one-placed = one.one-placed
+
 -- Each answer is given exactly when it is allowed. Demand 1: a refusal names the right number.
 pub check-exactly : (n : ℕ) (l : List ℕ) (a : Answer ℕ) → (listCheck n l ≡ a) ↔ Checks n l a
 check-exactly n l a = (λ e. subst (λ x. Checks n l x) e (checks n l), from-checks n l a)
@@ -45,12 +57,19 @@ lookup-exactly n l row column a = (λ e. subst (λ x. Looks n l row column x) e 
 pub neighbour-exactly : (n k level : ℕ) (d : Direction) (a : Answer ℕ) → (neighbour n k level d ≡ a) ↔ Nears n k level d a
 neighbour-exactly n k level d a = (λ e. subst (λ x. Nears n k level d x) e (nears-by n k level d), from-nears n k level d a)
 
+pub placing-exactly : (p : Place) (a : Answer Shift) → (placed p ≡ a) ↔ Places p a
+placing-exactly p a = (λ e. subst (λ x. Places p x) e (places p), from-places p a)
+
 pub list-exactly : (n : ℕ) (cells : List ℕ) (space : ℕ) → ((j : ℕ) → pixel n cells j < colours) → (a : Outcome)
     → (rasterToList n cells space ≡ a) ↔ Lists n cells space a
 list-exactly n cells space coloured a = (λ e. subst (λ x. Lists n cells space x) e (lists n cells space coloured), from-lists n cells space coloured a)
 
 pub raster-exactly : (n : ℕ) (l : List ℕ) (space : ℕ) (a : Outcome) → (listToRaster n l space ≡ a) ↔ Rasters n l space a
 raster-exactly n l space a = (λ e. subst (λ x. Rasters n l space x) e (rasters n l space), from-rasters n l space a)
+
+-- Demand 2: on the ground a shift is given exactly if, times the cell side, it is the difference of the corners, nothing rounded.
+pub shift-exactly : (a b : Ground) (dy dx : ℤ) → (placed (OnGround a b) ≡ gives (record { dy = dy; dx = dx })) ↔ Lies a b dy dx
+shift-exactly a b dy dx = (lies a b dy dx, from-lies a b dy dx)
 
 -- A raster's list gives the raster back.
 pub list-and-back : (n : ℕ) (cells : List ℕ) (space : ℕ) (l : List ℕ) → ((j : ℕ) → pixel n cells j < colours)

@@ -1,7 +1,7 @@
 // Oboeridge: calls on maps that are linear quadtrees, each proved for every input.
 //
 // A call judges its own input and requires nothing. It answers what it gives, or a refusal with the paper's No. and number.
-// What each call answers is defined in specs/, one file a call.
+// What each call answers is defined in specs/, one file a call; placing stands in the crate `place`.
 mod answers;
 mod cells;
 mod lists;
@@ -17,4 +17,9 @@ pub use lists::check;
 pub use lists::lookup;
 pub use neighbours::Direction;
 pub use neighbours::neighbour;
+pub use place::Ground;
+pub use place::Place;
+pub use place::Placed;
+pub use place::Shift;
+pub use place::placing;
 pub use refusal::Refusal;

@@ -1,0 +1,5 @@
+pub mod Answer
+pub mod Placing
+pub mod Allowed
+pub mod Cases
+pub mod laws
