@@ -5,82 +5,63 @@ use oboeridge::Counted;
 use oboeridge::Direction;
 use oboeridge::Looked;
 use oboeridge::Near;
-use oboeridge::Refusal;
-
-fn say(text: &[u8]) {
-    io::write_all(1, text);
-}
-
-fn given(value: u64) {
-    say(b": ");
-    io::print_decimal(1, value);
-    say(b"\n");
-}
-
-fn refused(r: Refusal) {
-    say(b": refusal ");
-    io::print_decimal(1, r.rule);
-    say(b", number ");
-    io::print_decimal(1, r.number);
-    say(b"\n");
-}
 
 fn check(what: &[u8], n: u64, list: &[u64]) {
-    say(b"list check, ");
-    say(what);
+    lines::say(b"list check, ");
+    lines::say(what);
     match oboeridge::check(n, list) {
-        Counted::Count(k) => given(k),
-        Counted::Refused(r) => refused(r),
+        Counted::Count(k) => lines::given(k),
+        Counted::Refused(r) => lines::refused(r),
     }
 }
 
 fn lookup(what: &[u8], n: u64, list: &[u64], cell: Cell) {
-    say(b"lookup, ");
-    say(what);
+    lines::say(b"lookup, ");
+    lines::say(what);
     match oboeridge::lookup(n, list, cell) {
-        Looked::Colour(c) => given(c as u64),
-        Looked::Refused(r) => refused(r),
+        Looked::Colour(c) => lines::given(c as u64),
+        Looked::Refused(r) => lines::refused(r),
     }
 }
 
 fn neighbour(what: &[u8], n: u64, code: u64, level: u64, direction: Direction) {
-    say(b"neighbour, ");
-    say(what);
+    lines::say(b"neighbour, ");
+    lines::say(what);
     match oboeridge::neighbour(n, code, level, direction) {
-        Near::Code(k) => given(k),
-        Near::Refused(r) => refused(r),
+        Near::Code(k) => lines::given(k),
+        Near::Refused(r) => lines::refused(r),
     }
 }
 
 fn words(list: &[u64]) {
     let mut i = 0;
     while i < list.len() {
-        say(b" ");
+        lines::say(b" ");
         io::print_decimal(1, list[i]);
         i += 1;
     }
-    say(b"\n");
+    lines::say(b"\n");
 }
 
 // The list of a raster, and what is then left in the space lent, which held nines.
 fn to_list<'a>(what: &'a [u8], n: u64, cells: &'a [u8], lent: &mut [u64]) {
-    say(b"raster to list, ");
-    say(what);
+    lines::say(b"raster to list, ");
+    lines::say(what);
     match oboeridge::to_list(n, cells, lent) {
-        Counted::Count(k) => given(k),
-        Counted::Refused(r) => refused(r),
+        Counted::Count(k) => lines::given(k),
+        Counted::Refused(r) => lines::refused(r),
     }
-    say(b"  left:");
+    lines::say(b"  left:");
     words(lent);
 }
 
 fn to_raster<'a>(what: &'a [u8], n: u64, list: &'a [u64]) {
-    say(b"list to raster, ");
-    say(what);
+    lines::say(b"list to raster, ");
+    lines::say(what);
     let mut cells = [9u8; 16];
     match oboeridge::to_raster(n, list, &mut cells) {
-        Counted::Count(k) => given(k),
-        Counted::Refused(r) => refused(r),
+        Counted::Count(k) => lines::given(k),
+        Counted::Refused(r) => lines::refused(r),
     }
 }
 
