@@ -3,11 +3,12 @@ use mathlib.Core.Path.{_≡_, subst}
 use mathlib.Core.List.{List}
 use mathlib.Core.Logic.{_↔_}
 use Prim.Native.Nat.{ℕ, _^_, _<_}
-use lib.IntN.{ℤ}
+use lib.IntN.{ℤ, pos}
 use lib.ListN.{length}
 use Rattle.refusal.specs.Answer.{Answer, gives}
 use Rattle.tiling.specs.Leaf.{colours}
-use Rattle.tiling.specs.Map.{colourAt}
+use Rattle.tiling.specs.Map.{colourAt, colourIn}
+use Rattle.tiling.specs.WellFormed.{WellFormed}
 use Rattle.place.specs.Answer.{answered}
 use Rattle.place.specs.Placing.{placed}
 use Rattle.place.specs.Allowed.{Places, Lies}
@@ -25,7 +26,12 @@ use Rattle.oboeridge.specs.Answers.{counted, looked, near}
 use Rattle.oboeridge.specs.Lists.{listCheck, cellLookup}
 use Rattle.oboeridge.specs.Neighbour.{neighbour}
 use Rattle.oboeridge.specs.Rasters.{rasterToList, listToRaster}
-use Rattle.oboeridge.specs.Allowed.{Checks, Looks, Nears, Lists, Rasters}
+use Rattle.oboeridge.specs.Allowed.{Checks, Looks, Nears, Lists, Rasters, Overlays, Windows}
+use Rattle.oboeridge.specs.Overlay.{windowOf, windowCell, overlayCell, overlaid, windowed}
+use Rattle.oboeridge.specs.laws.Overlays.{overlaid-allowed, allowed-overlaid, windows, from-windows, shown, overlay-list, window-list}
+use Rattle.oboeridge.specs.declared.overlays.Window.{Window}
+use Rattle.oboeridge.specs.declared.overlays.Frame.{Frame}
+use Rattle.painter.specs.declared.operations.Operation.{Operation}
 use Rattle.oboeridge.specs.laws.OneAnswer as one
 use Rattle.oboeridge.specs.laws.Exactly.{checks, from-checks, looks-up, from-looks, nears-by, from-nears}
 use Rattle.oboeridge.specs.laws.Cells.{lists, from-lists, rasters, from-rasters, list-back, raster-back, raster-same}
@@ -70,6 +76,25 @@ raster-exactly n l space a = (λ e. subst (λ x. Rasters n l space x) e (rasters
 -- Demand 2: on the ground a shift is given exactly if, times the cell side, it is the difference of the corners, nothing rounded.
 pub shift-exactly : (a b : Ground) (dy dx : ℤ) → (placed (OnGround a b) ≡ gives (record { dy = dy; dx = dx })) ↔ Lies a b dy dx
 shift-exactly a b dy dx = (lies a b dy dx, from-lies a b dy dx)
+
+pub overlay-exactly : (o : Operation) (n : ℕ) (a : List ℕ) (m : ℕ) (b : List ℕ) (s : Shift) (f : Frame) (space : ℕ) (x : Outcome)
+    → (overlaid o n a m b s f space ≡ x) ↔ Overlays o n a m b s (windowOf n f) space x
+overlay-exactly o n a m b s f space x =
+    (λ e. subst (λ y. Overlays o n a m b s (windowOf n f) space y) e (overlaid-allowed o n a m b s f space), allowed-overlaid o n a m b s f space x)
+
+pub window-exactly : (n : ℕ) (a : List ℕ) (w : Window) (space : ℕ) (x : Outcome) → (windowed n a w space ≡ x) ↔ Windows n a w space x
+window-exactly n a w space x = (λ e. subst (λ y. Windows n a w space y) e (windows n a w space), from-windows n a w space x)
+
+-- Demand 2: each cell of an accepted list has the colour that the operation gives under the shift, cells beyond either map included, and
+-- the list tiles its window.
+pub overlay-cells : (o : Operation) (n : ℕ) (a : List ℕ) (m : ℕ) (b : List ℕ) (s : Shift) (f : Frame) (space : ℕ) (l : List ℕ) → overlaid o n a m b s f space ≡ gives l
+    → WellFormed (windowOf n f .size) l
+    × ((y x : ℕ) → y < 2 ^ windowOf n f .size → x < 2 ^ windowOf n f .size → colourIn (windowOf n f .size) l (pos y) (pos x) ≡ overlayCell o n a m b s (windowOf n f) y x)
+overlay-cells o n a m b s f space l e = let z = overlay-list o n a m b s f space l e in (z .1 .formed, shown _ _ l (z .0) (z .1))
+
+pub window-cells : (n : ℕ) (a : List ℕ) (w : Window) (space : ℕ) (l : List ℕ) → windowed n a w space ≡ gives l
+    → WellFormed (w .size) l × ((y x : ℕ) → y < 2 ^ w .size → x < 2 ^ w .size → colourIn (w .size) l (pos y) (pos x) ≡ windowCell n a w y x)
+window-cells n a w space l e = let z = window-list n a w space l e in (z .1 .formed, shown _ _ l (z .0) (z .1))
 
 -- A raster's list gives the raster back.
 pub list-and-back : (n : ℕ) (cells : List ℕ) (space : ℕ) (l : List ℕ) → ((j : ℕ) → pixel n cells j < colours)

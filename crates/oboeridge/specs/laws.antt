@@ -2,6 +2,7 @@ pub mod Ways
 pub mod Checks
 pub mod Scenes
 pub mod Windows
+pub mod Overlays
 pub mod Away
 pub mod Exactly
 pub mod OneAnswer

@@ -47,7 +47,7 @@ union-blank a = go (eqb a 0) refl
     go true e = sym (eqb-true a 0 e)
     go false e = refl
 
-colour-in-lt : (n : ℕ) (l : List ℕ) (r c : ℤ) → colourIn n l r c < colours
+pub colour-in-lt : (n : ℕ) (l : List ℕ) (r c : ℤ) → colourIn n l r c < colours
 unfolding colourIn
 colour-in-lt n l r c =
     either-lt (inside n r c) (colourAt l (code (natAbs r) (natAbs c))) beyond colours (colour-lt l (code (natAbs r) (natAbs c))) (omega arith)
@@ -56,13 +56,13 @@ module _ (n : ℕ) (a : List ℕ) (w : Window) where
   same-cell : (y x : ℕ) → overlayCell Union n a 0 blank nowhere w y x ≡ windowCell n a w y x
   same-cell y x = ap (combine Union (windowCell n a w y x)) (blank-white _ _) ∙ union-blank (windowCell n a w y x)
 
-  coloured : (k : ℕ) → byCode (windowCell n a w) k < colours
-  coloured k = colour-in-lt n a (w .wy +ℤ pos (rowOf k)) (w .wx +ℤ pos (columnOf k))
+  pub window-coloured : (k : ℕ) → byCode (windowCell n a w) k < colours
+  window-coloured k = colour-in-lt n a (w .wy +ℤ pos (rowOf k)) (w .wx +ℤ pos (columnOf k))
 
   same-list : w .size ≤ limit → shortest (byCode (overlayCell Union n a 0 blank nowhere w)) (w .size) 0 ≡ shortest (byCode (windowCell n a w)) (w .size) 0
   same-list h =
-      same-shortest (byCode (windowCell n a w)) (w .size) (omega arith) coloured (byCode (overlayCell Union n a 0 blank nowhere w))
-      (λ k. rw (same-cell (rowOf k) (columnOf k)) (coloured k)) (λ k l. same-cell (rowOf k) (columnOf k))
+      same-shortest (byCode (windowCell n a w)) (w .size) (omega arith) window-coloured (byCode (overlayCell Union n a 0 blank nowhere w))
+      (λ k. rw (same-cell (rowOf k) (columnOf k)) (window-coloured k)) (λ k l. same-cell (rowOf k) (columnOf k))
 
   pub as-union : (space : ℕ) → overlaid Union n a 0 blank nowhere (At w) space ≡ windowed n a w space
   unfolding overlaid windowed checkedFrom
