@@ -2,12 +2,12 @@
 use mathlib.Core.Path.{_≡_, subst}
 use mathlib.Core.List.{List}
 use mathlib.Core.Logic.{_↔_}
-use Prim.Native.Nat.{ℕ, _^_, _<_}
+use Prim.Native.Nat.{ℕ, _^_, _<_, _≤_}
 use lib.IntN.{ℤ, pos}
-use lib.ListN.{length}
-use Rattle.refusal.specs.Answer.{Answer, gives}
+use lib.ListN.{length, drop}
+use Rattle.refusal.specs.Answer.{Answer, gives, refuses}
 use Rattle.tiling.specs.Leaf.{colours}
-use Rattle.tiling.specs.Map.{colourAt, colourIn}
+use Rattle.tiling.specs.Map.{limit, colourAt, colourIn}
 use Rattle.tiling.specs.WellFormed.{WellFormed}
 use Rattle.place.specs.Answer.{answered}
 use Rattle.place.specs.Placing.{placed}
@@ -18,16 +18,18 @@ use Rattle.place.specs.declared.Place.{Place}
 use Rattle.place.specs.declared.Place.the-variants.{OnGround}
 use Rattle.place.specs.declared.Placed.{Placed}
 use Rattle.place.specs.declared.Shift.{Shift}
-use Rattle.shortest.specs.Shortest.{shortest}
+use Rattle.shortest.specs.Shortest.{shortest, ShowsPicture}
 use Rattle.shortest.specs.Demand.{IsShortest}
-use Rattle.shortest.specs.Outcome.{Outcome, fitting}
+use Rattle.shortest.specs.Outcome.{Outcome, fitting, left}
 use Rattle.rasters.specs.Raster.{pixel}
 use Rattle.oboeridge.specs.Answers.{counted, looked, near}
 use Rattle.oboeridge.specs.Lists.{listCheck, cellLookup}
 use Rattle.oboeridge.specs.Neighbour.{neighbour}
 use Rattle.oboeridge.specs.Rasters.{rasterToList, listToRaster}
-use Rattle.oboeridge.specs.Allowed.{Checks, Looks, Nears, Lists, Rasters, Overlays, Windows}
-use Rattle.oboeridge.specs.Overlay.{windowOf, windowCell, overlayCell, overlaid, windowed}
+use Rattle.oboeridge.specs.Allowed.{Checks, Looks, Nears, Lists, Rasters, Overlays, Windows, NoRoom}
+use Rattle.oboeridge.specs.Overlay.{windowOf, windowCell, overlayCell, byCode, overlaid, windowed}
+use Rattle.oboeridge.specs.laws.Promises.{overlay-refused, window-refused, only, refused-keeps, given-keeps}
+use Rattle.refusal.specs.Rules as rule
 use Rattle.oboeridge.specs.laws.Overlays.{overlaid-allowed, allowed-overlaid, windows, from-windows, shown, overlay-list, window-list}
 use Rattle.oboeridge.specs.declared.overlays.Window.{Window}
 use Rattle.oboeridge.specs.declared.overlays.Frame.{Frame}
@@ -95,6 +97,34 @@ overlay-cells o n a m b s f space l e = let z = overlay-list o n a m b s f space
 pub window-cells : (n : ℕ) (a : List ℕ) (w : Window) (space : ℕ) (l : List ℕ) → windowed n a w space ≡ gives l
     → WellFormed (w .size) l × ((y x : ℕ) → y < 2 ^ w .size → x < 2 ^ w .size → colourIn (w .size) l (pos y) (pos x) ≡ windowCell n a w y x)
 window-cells n a w space l e = let z = window-list n a w space l e in (z .1 .formed, shown _ _ l (z .0) (z .1))
+
+-- Demand 3: "no room" is said exactly when no list that shows the picture fits, with the length of the shortest. (That it is said
+-- then is `overlay-exactly` and `window-exactly`.)
+pub overlay-room : (o : Operation) (n : ℕ) (a : List ℕ) (m : ℕ) (b : List ℕ) (s : Shift) (f : Frame) (space k : ℕ)
+    → overlaid o n a m b s f space ≡ refuses rule.noRoom k → NoRoom (byCode (overlayCell o n a m b s (windowOf n f))) (windowOf n f .size) space k
+overlay-room = overlay-refused
+
+pub window-room : (n : ℕ) (a : List ℕ) (w : Window) (space k : ℕ) → windowed n a w space ≡ refuses rule.noRoom k → NoRoom (byCode (windowCell n a w)) (w .size) space k
+window-room = window-refused
+
+-- Demand 3: an accepted list is the shortest, and the only one of its length.
+pub overlay-shortest : (o : Operation) (n : ℕ) (a : List ℕ) (m : ℕ) (b : List ℕ) (s : Shift) (f : Frame) (space : ℕ) (l : List ℕ)
+    → overlaid o n a m b s f space ≡ gives l → IsShortest (byCode (overlayCell o n a m b s (windowOf n f))) (windowOf n f .size) l
+overlay-shortest o n a m b s f space l e = overlay-list o n a m b s f space l e .1
+
+pub window-shortest : (n : ℕ) (a : List ℕ) (w : Window) (space : ℕ) (l : List ℕ) → windowed n a w space ≡ gives l → IsShortest (byCode (windowCell n a w)) (w .size) l
+window-shortest n a w space l e = window-list n a w space l e .1
+
+pub shortest-only : (f : ℕ → ℕ) (n : ℕ) (l : List ℕ) → n ≤ limit → ((k : ℕ) → f k < colours) → IsShortest f n l
+    → (other : List ℕ) → WellFormed n other → ShowsPicture f n other → length other ≤ length l → other ≡ l
+shortest-only = only
+
+-- Demand 1: a refusal changes nothing in the memory lent; past the words written nothing changes. For every call that writes.
+pub unchanged : (x : Outcome) (r k : ℕ) (old : List ℕ) → x ≡ refuses r k → left x old ≡ old
+unchanged = refused-keeps
+
+pub rest-unchanged : (x : Outcome) (l old : List ℕ) → x ≡ gives l → drop (length l) (left x old) ≡ drop (length l) old
+rest-unchanged = given-keeps
 
 -- A raster's list gives the raster back.
 pub list-and-back : (n : ℕ) (cells : List ℕ) (space : ℕ) (l : List ℕ) → ((j : ℕ) → pixel n cells j < colours)

@@ -3,6 +3,7 @@ pub mod Checks
 pub mod Scenes
 pub mod Windows
 pub mod Overlays
+pub mod Promises
 pub mod Away
 pub mod Exactly
 pub mod OneAnswer
