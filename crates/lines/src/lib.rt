@@ -30,3 +30,14 @@ pub fn signed(z: i64) {
         io::print_decimal(1, z as u64);
     }
 }
+
+// Words of memory, on one line.
+pub fn words(list: &[u64]) {
+    let mut i = 0;
+    while i < list.len() {
+        say(b" ");
+        io::print_decimal(1, list[i]);
+        i += 1;
+    }
+    say(b"\n");
+}

@@ -33,16 +33,6 @@ fn neighbour(what: &[u8], n: u64, code: u64, level: u64, direction: Direction) {
     }
 }
 
-fn words(list: &[u64]) {
-    let mut i = 0;
-    while i < list.len() {
-        lines::say(b" ");
-        io::print_decimal(1, list[i]);
-        i += 1;
-    }
-    lines::say(b"\n");
-}
-
 // The list of a raster, and what is then left in the space lent, which held nines.
 fn to_list<'a>(what: &'a [u8], n: u64, cells: &'a [u8], lent: &mut [u64]) {
     lines::say(b"raster to list, ");
@@ -52,7 +42,7 @@ fn to_list<'a>(what: &'a [u8], n: u64, cells: &'a [u8], lent: &mut [u64]) {
         Counted::Refused(r) => lines::refused(r),
     }
     lines::say(b"  left:");
-    words(lent);
+    lines::words(lent);
 }
 
 fn to_raster<'a>(what: &'a [u8], n: u64, list: &'a [u64]) {

@@ -1,10 +1,10 @@
--- `worked::words` ends: less of the list is left at each turn.
+-- `lines::words` ends: less of the list is left at each turn.
 use Prim.Native.Nat.{_≤_, _-_}
 use native.Mathlib.Omega.{arith}
 use lib.ListN.{length}
 use borrow.Author.Needs.{needs}
-use Rattle.worked.proofs.words.Statement.{statement}
-use Rattle.worked.proofs.words.Tie as tie
+use Rattle.lines.proofs.words.Statement.{statement}
+use Rattle.lines.proofs.words.Tie as tie
 
 abbrev Inv-loop : tie.InvT-loop
 Inv-loop list i₀ t3 t4 i = i ≤ length list
