@@ -4,7 +4,7 @@ use Prim.Native.Nat.{ℕ}
 use lib.Dec.{ltb}
 use lib.IntN.{ℤ, pos, _+ℤ_, _-ℤ_}
 use Rattle.refusal.specs.Rules as rule
-use Rattle.refusal.specs.Answer.{Answer, refuses, refuseIf}
+use Rattle.refusal.specs.Answer.{refuses, refuseIf}
 use Rattle.morton.specs.Code.{rowOf, columnOf}
 use Rattle.tiling.specs.Map.{limit, colourIn}
 use Rattle.tiling.specs.Check.{checked}

@@ -1,7 +1,7 @@
 -- What follows from an outcome's being allowed: of no room, of the only shortest list, of the memory.
 use mathlib.Core.Path.{_≡_, refl, sym, ap, _∙_, subst}
 use mathlib.Core.List.{List, [], _∷_, _++_}
-use Prim.Native.Nat.{ℕ, zero, suc, _<_, _≤_}
+use Prim.Native.Nat.{ℕ, _<_, _≤_}
 use native.Mathlib.Omega.{arith}
 use lib.ListN.{length, drop}
 use Rattle.refusal.specs.Rules as rule
@@ -9,7 +9,7 @@ use Rattle.refusal.specs.Answer.{gives, refuses}
 use Rattle.tiling.specs.Leaf.{colours}
 use Rattle.tiling.specs.Map.{limit}
 use Rattle.tiling.specs.WellFormed.{WellFormed}
-use Rattle.shortest.specs.Shortest.{shortest, ShowsPicture}
+use Rattle.shortest.specs.Shortest.{ShowsPicture}
 use Rattle.shortest.specs.Demand.{IsShortest}
 use Rattle.shortest.specs.Outcome.{Outcome, left}
 use Rattle.shortest.specs.laws.Only.{only-shortest}

@@ -1,5 +1,5 @@
 -- The painter's scene shows the overlay's cells: what is biased stands for the row and the column.
-use mathlib.Core.Path.{_≡_, refl, sym, ap, ap₂, _∙_, subst}
+use mathlib.Core.Path.{_≡_, sym, ap, ap₂, _∙_, subst}
 use mathlib.Core.List.{List, []}
 use Prim.Native.Nat.{ℕ, _+_, _≤_, _<_}
 use native.Mathlib.Omega.{arith}
@@ -22,11 +22,11 @@ use Rattle.probe.specs.Biased.{reach, biased, cellAbout}
 use Rattle.probe.specs.laws.Biased.{near, near-step, colour-biased, biased-step, biased-lt}
 use Rattle.place.specs.declared.Shift.{Shift}
 use Rattle.painter.specs.Operation.{combine}
-use Rattle.painter.specs.Scene.{cellOf, picture, Scened}
+use Rattle.painter.specs.Scene.{cellOf, picture}
 use Rattle.painter.specs.Painting.{Paints}
 use Rattle.painter.specs.declared.operations.Operation.{Operation}
 use Rattle.painter.specs.declared.scene.Scene.{Scene}
-use Rattle.oboeridge.specs.Overlay.{windowOf, windowCell, overlayCell, byCode, unless, judged, overlaid}
+use Rattle.oboeridge.specs.Overlay.{windowOf, overlayCell, byCode, unless, judged, overlaid}
 use Rattle.oboeridge.specs.declared.overlays.Frame.{Frame}
 use Rattle.oboeridge.specs.Scenes.{sceneOf}
 use Rattle.oboeridge.specs.laws.Checks.{Near, Right, judged-right, fine-passes}

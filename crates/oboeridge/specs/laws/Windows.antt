@@ -10,12 +10,10 @@ use borrow.Author.Tests.{eqb-true, ltb-false}
 use Rattle.morton.specs.Code.{code, rowOf, columnOf}
 use Rattle.tiling.specs.Leaf.{colours, colourOf, endOf, white}
 use Rattle.tiling.specs.Map.{limit, beyond, inside, colourAt, colourIn}
-use Rattle.tiling.specs.Check.{checked, checkedFrom}
+use Rattle.tiling.specs.Check.{checkedFrom}
 use Rattle.tiling.specs.laws.Colour.{colour-lt}
 use Rattle.shortest.specs.Shortest.{shortest}
-use Rattle.shortest.specs.Outcome.{fitting}
 use Rattle.shortest.specs.laws.Only.{same-shortest}
-use Rattle.place.specs.Placing.{far}
 use Rattle.place.specs.declared.Shift.{Shift}
 use Rattle.painter.specs.Operation.{combine}
 use Rattle.painter.specs.laws.Table.{either-lt}

@@ -1,13 +1,12 @@
 -- The blocks of a scene: the picture over one that shows one colour, and the quarters of one that does not.
 use mathlib.Core.Path.{_≡_, sym, ap, ap₂, _∙_, subst}
-use mathlib.Core.Bool.{Bool, true, false, cond, _&&_}
+use mathlib.Core.Bool.{_&&_}
 use mathlib.Core.List.{List}
 use Prim.Native.Nat.{ℕ, suc, _+_, _-_, _*_, _^_, _<_, _≤_}
 use native.Mathlib.Nat.{pow-succ'}
 use native.Mathlib.Omega.{arith}
 use lib.Pow.{pow-pos}
 use Rattle.morton.specs.Code.{code, rowOf, columnOf}
-use Rattle.morton.specs.Power.{highest}
 use Rattle.morton.specs.Block.{Block, Quarters}
 use Rattle.morton.specs.laws.Block.{block-level, block-cell, quarters, whole}
 use Rattle.tiling.specs.Leaf.{colours}

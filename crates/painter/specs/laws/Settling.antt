@@ -1,7 +1,7 @@
 -- From what is known of the two maps over a square to what the scene shows there.
-use mathlib.Core.Path.{_≡_, sym, subst}
+use mathlib.Core.Path.{subst}
 use mathlib.Core.List.{List}
-use Prim.Native.Nat.{ℕ, _+_, _^_, _<_, _≤_}
+use Prim.Native.Nat.{ℕ, _+_, _^_, _<_}
 use native.Mathlib.Nat.{add-assoc}
 use native.Mathlib.Omega.{arith}
 use Rattle.tiling.specs.Leaf.{colours}
@@ -10,7 +10,7 @@ use Rattle.probe.specs.Biased.{cellAbout}
 use Rattle.probe.specs.Asked.{About}
 use Rattle.probe.specs.laws.About.{is-one, tells-holds}
 use Rattle.painter.specs.Known.{Agrees, Open, Joint}
-use Rattle.painter.specs.Scene.{cellOf, Scened, Knows, Probes}
+use Rattle.painter.specs.Scene.{cellOf, Probes}
 use Rattle.painter.specs.declared.scene.Scene.{Scene}
 
 -- a map's colour at a cell of the square agrees with what is known

@@ -6,16 +6,11 @@ use lib.IntN.{_-ℤ_}
 use mir.Syntax.{w64}
 use mir.Val.{SFits}
 use Rattle.place.specs.Placing.{exact, same, offsets}
-use Rattle.place.specs.declared.Whole.the-variants.{Of, Nothing}
+use Rattle.place.specs.declared.Whole.the-variants.{Of}
 use Rattle.tiling.specs.laws.Signed.{back}
 use Rattle.place.specs.laws.Integers.{same-bits, same-yes, same-no, difference, difference-fits, cells-differ, rows-split, columns-split, shifted}
 use Rattle.place.proofs.measured.Statement.{statement}
 use Rattle.place.proofs.measured.Tie as tie
-use Rattle.place.proofs.measured.Reads as reads
-use Rattle.place.proofs.measured.Lts as lts
-use Rattle.place.proofs.offset.Reads as offset-reads
-use Rattle.place.proofs.refused.Reads as refused-reads
-use Rattle.place.proofs.times.Reads as times-reads
 
 refused-requires : tie.Need-refused-requires
 refused-requires c κs = search needs

@@ -1,7 +1,6 @@
 -- `place::offset` meets its contract: a test and a refusal for each of the two.
 use borrow.Author.Needs.{needs}
 use mathlib.Core.Path.{_≡_, sym, ap, ap₂, _∙_}
-use mathlib.Core.Bool.{true, false}
 use lib.IntN.{ℤ}
 use Rattle.refusal.specs.Answer.{gives}
 use Rattle.tiling.specs.laws.Signed.{back}

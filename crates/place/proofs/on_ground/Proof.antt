@@ -1,22 +1,16 @@
 -- `place::on_ground` meets its contract.
 use borrow.Author.Needs.{needs}
-use mathlib.Core.Path.{_≡_, sym, ap, _∙_, subst}
+use mathlib.Core.Path.{_≡_, sym, _∙_, subst}
 use Prim.Native.Nat.{_<_}
 use native.Mathlib.Omega.{arith}
-use lib.IntN.{ℤ}
 use mir.Syntax.{w64}
-use mir.Val.{SFits, toZ, ofZ}
-use Rattle.place.specs.Placing.{reading, between}
+use mir.Val.{SFits}
+use Rattle.place.specs.Placing.{reading}
 use Rattle.place.specs.declared.Reading.the-variants.{Usable, Bad}
 use Rattle.tiling.specs.laws.Signed.{back}
 use Rattle.place.specs.laws.Readings.{Within, within, first-bad, second-bad, both-read}
 use Rattle.place.proofs.on_ground.Statement.{statement}
 use Rattle.place.proofs.on_ground.Tie as tie
-use Rattle.place.proofs.on_ground.Reads as reads
-use Rattle.place.proofs.on_ground.Lts as lts
-use Rattle.place.proofs.measured.Reads as measured-reads
-use Rattle.place.proofs.read.Reads as read-reads
-use Rattle.place.proofs.refused.Reads as refused-reads
 
 -- what each arm knows of the readings
 first : (c : tie.After-n1) → reading (c .before .before .before .args .first) ≡ Usable (c .n1 .given .0 .0) (c .n1 .given .0 .1 .0) (c .n1 .given .0 .1 .1 .0)

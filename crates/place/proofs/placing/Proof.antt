@@ -1,16 +1,12 @@
 -- `place::placing` meets its contract: each arm is a call.
 use borrow.Author.Needs.{needs}
-use mathlib.Core.Path.{_≡_, sym, ap, ap₂, _∙_}
+use mathlib.Core.Path.{sym, ap, ap₂, _∙_}
 use mir.Syntax.{w64}
 use mir.Val.{SFits}
-use Rattle.place.specs.Placing.{placed, offsets, onGround}
+use Rattle.place.specs.Placing.{placed, offsets}
 use Rattle.tiling.specs.laws.Signed.{back}
 use Rattle.place.proofs.placing.Statement.{statement}
 use Rattle.place.proofs.placing.Tie as tie
-use Rattle.place.proofs.placing.Reads as reads
-use Rattle.place.proofs.placing.Lts as lts
-use Rattle.place.proofs.offset.Reads as offset-reads
-use Rattle.place.proofs.on_ground.Reads as on-ground-reads
 
 enum-known-p : tie.Need-enum-known-p
 enum-known-p c = search needs

@@ -1,21 +1,14 @@
 -- `place::read` meets its contract.
 use borrow.Author.Needs.{needs}
-use mathlib.Core.Path.{_≡_, sym, ap₂, _∙_}
-use lib.IntN.{ℤ}
+use mathlib.Core.Path.{_≡_, sym, _∙_}
 use mir.Syntax.{w64}
-use mir.Val.{SFits, toZ, ofZ}
-use Rattle.place.specs.Placing.{in1024ths, cellSide, reading}
+use mir.Val.{SFits}
+use Rattle.place.specs.Placing.{in1024ths}
 use Rattle.place.specs.declared.Whole.the-variants.{Of}
-use Rattle.place.specs.declared.Reading.{Reading}
-use Rattle.place.specs.declared.Reading.the-variants.{Usable}
 use Rattle.tiling.specs.laws.Signed.{back}
 use Rattle.place.specs.laws.Readings.{no-north, no-east, no-cell, all-there}
 use Rattle.place.proofs.read.Statement.{statement}
 use Rattle.place.proofs.read.Tie as tie
-use Rattle.place.proofs.read.Reads as reads
-use Rattle.place.proofs.read.Lts as lts
-use Rattle.place.proofs.scaled.Reads as scaled-reads
-use Rattle.place.proofs.side.Reads as side-reads
 
 scaled-requires : tie.Need-scaled-requires
 scaled-requires c κs = search needs

@@ -1,23 +1,15 @@
 -- `place::scaled` meets its contract: the product by 1024 is exact, the cast is in range, and the comparison tells whether anything was cut off.
 use borrow.Author.Needs.{needs}
-use mathlib.Core.Path.{_≡_, sym, ap, _∙_, subst}
-use Prim.Native.Nat.{_<_, _^_}
+use mathlib.Core.Path.{_≡_, sym, ap, _∙_}
 use mathlib.Core.Bool.{Bool, true, false, cond}
-use lib.IntN.{ℤ, pos}
-use lib.Signed.{mag}
+use lib.IntN.{pos}
 use lib.Ieee.{fin, binary64, ofBits, neg, eq, mul, ofInt}
-use mir.Val.{toZ, ofZ}
-use mir.Syntax.{w64}
 use Rattle.tiling.specs.laws.Signed.{held}
 use Rattle.place.specs.declared.Whole.the-variants.{Of, Nothing}
 use Rattle.place.specs.Placing.{in1024ths}
 use Rattle.place.specs.laws.Scaling.{scale, castable, in-range, too-low, too-high, answer}
 use Rattle.place.proofs.scaled.Statement.{statement}
 use Rattle.place.proofs.scaled.Tie as tie
-use Rattle.place.proofs.scaled.Reads as reads
-use Rattle.place.proofs.scaled.Lts as lts
-use Rattle.std.proofs.num.nearest_i64_to_f64.Reads as nearest-i64-to-f64-reads
-use Rattle.std.proofs.num.truncating_f64_to_i64.Reads as truncating-f64-to-i64-reads
 
 truncating-f64-to-i64-requires : tie.Need-truncating-f64-to-i64-requires
 unfolding ofBits neg

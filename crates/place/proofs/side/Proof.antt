@@ -4,13 +4,10 @@ use mathlib.Core.Path.{_≡_, sym, ap, _∙_}
 use mir.Syntax.{w64}
 use mir.Val.{SFits}
 use Rattle.place.specs.Placing.{in1024ths, aboveZero, cellSide}
-use Rattle.place.specs.declared.Whole.the-variants.{Of, Nothing}
+use Rattle.place.specs.declared.Whole.the-variants.{Of}
 use Rattle.place.specs.laws.Integers.{above-yes, above-no}
 use Rattle.place.proofs.side.Statement.{statement}
 use Rattle.place.proofs.side.Tie as tie
-use Rattle.place.proofs.side.Reads as reads
-use Rattle.place.proofs.side.Lts as lts
-use Rattle.place.proofs.scaled.Reads as scaled-reads
 
 scaled-requires : tie.Need-scaled-requires
 scaled-requires c κs = search needs

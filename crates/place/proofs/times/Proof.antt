@@ -1,10 +1,9 @@
 -- `place::times` meets its contract: the divisor is above zero, and the remainder is tested.
-use mathlib.Core.Path.{_≡_, sym, ap, ap₂, _∙_, subst₂}
-use Prim.Native.Nat.{ℕ}
+use mathlib.Core.Path.{_≡_, sym, ap, ap₂, _∙_}
 use lib.IntN.{ℤ}
 use lib.Signed.{quotZ, remZ}
 use mir.Syntax.{w64}
-use mir.Val.{SFits, ofZ, toZ}
+use mir.Val.{ofZ, toZ}
 use Rattle.place.specs.declared.Whole.the-variants.{Of}
 use Rattle.tiling.specs.laws.Signed.{back}
 use Rattle.place.specs.laws.Integers.{positive-bits, quotient-fits, exact-yes, exact-no}

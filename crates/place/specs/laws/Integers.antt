@@ -1,21 +1,20 @@
 -- The code's signed numbers: a difference, a quotient, the test of an offset; and the ways through `offsets` and `between`.
 use mathlib.Core.Path.{_≡_, refl, sym, ap, ap₂, _∙_, subst}
-use Prim.Native.Nat.{ℕ, zero, suc, _+_, _-_, _*_, _/_, _%_, _^_, _≤_, _<_}
-use native.Mathlib.Nat.{le-refl, le-trans, lt-of-le-of-lt, lt-of-lt-of-le, div-le-self, mod-le, zero-lt-suc}
+use Prim.Native.Nat.{ℕ, zero, suc, _-_, _/_, _%_, _^_, _≤_, _<_}
+use native.Mathlib.Nat.{le-trans, div-le-self, mod-le}
 use native.Mathlib.Omega.{arith}
-use mathlib.Core.Bool.{Bool, true, false, cond, not, true≢false}
-use lib.Dec.{T, eqb, leb, ltb, ltb→lt, leb·suc-suc, lit≤, lit<}
-use lib.IntN.{ℤ, pos, negsuc, negℤ, natAbs, subℕ, _+ℤ_, _-ℤ_}
+use mathlib.Core.Bool.{true, false, true≢false}
+use lib.Dec.{ltb→lt, leb·suc-suc}
+use lib.IntN.{ℤ, pos, negsuc, negℤ, natAbs, _-ℤ_}
 use lib.Signed.{mag, ltZ, quotZ, remZ, _<ℤ_}
 use mir.Syntax.{w64}
 use mir.Val.{SFits, toZ, ofZ}
-use mir.ValLaws.{toZ-ofZ, sfits-le}
-use borrow.Author.Tests.{eq-eqb, ne-eqb, ltb-true, ltb-false}
+use mir.ValLaws.{sfits-le}
+use borrow.Author.Tests.{eq-eqb, ne-eqb}
 use Rattle.refusal.specs.Rules as rule
 use Rattle.refusal.specs.Answer.{gives, refuses}
 use Rattle.tiling.specs.laws.Signed.{back, abs-neg, abs-sum, small-fits}
 use Rattle.place.specs.Placing.{reach, exact, same, far, offsets, aboveZero, between}
-use Rattle.place.specs.declared.Whole.{Whole}
 use Rattle.place.specs.declared.Whole.the-variants.{Of, Nothing}
 
 -- ---- equal bits, equal numbers

@@ -1,19 +1,18 @@
 -- What the definitions that compute say in exact numbers: `in1024ths x` is z exactly if x is z 1024ths, `exact z c` is q exactly if
 -- q * c is z.
-use mathlib.Core.Path.{_≡_, refl, sym, ap, ap₂, _∙_, subst}
-use Prim.Native.Nat.{ℕ, zero, suc, _*_, _/_, _%_, _≤_, _<_}
-use native.Mathlib.Nat.{mul-mod-left, mul-div-cancel, zero-mul, zero-lt-suc, zero-div}
+use mathlib.Core.Path.{_≡_, refl, sym, ap, _∙_, subst}
+use Prim.Native.Nat.{ℕ, zero, suc, _*_, _/_, _%_, _<_}
+use native.Mathlib.Nat.{mul-mod-left, mul-div-cancel, zero-mul, zero-div}
 use native.Mathlib.Omega.{arith}
 use mathlib.Core.Bool.{Bool, true, false, cond, _&&_}
 use lib.Dec.{eqb, leb}
 use lib.IntN.{ℤ, pos, negsuc, negℤ, natAbs, _*ℤ_}
-use lib.Signed.{quotZ, _<ℤ_}
+use lib.Signed.{quotZ}
 use lib.Ieee.{Float, nan, inf, fin, up, down}
 use lib.Ieee.Fits.{down-pos}
 use borrow.Author.Tests.{eqb-true, leb-true, eq-eqb, le-leb}
 use Rattle.place.specs.Placing.{farthest, signed, in1024ths, exact}
 use Rattle.place.specs.Allowed.{Is}
-use Rattle.place.specs.declared.Whole.{Whole}
 use Rattle.place.specs.declared.Whole.the-variants.{Of, Nothing}
 use Rattle.place.specs.laws.Scaling.{no-rest}
 

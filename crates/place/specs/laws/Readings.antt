@@ -1,17 +1,17 @@
 -- What the spec's readings are within: a usable number is at most 2 ^ 34 of 1024ths, a cell side is above zero. And the ways through `reading` and `onGround`.
-use mathlib.Core.Path.{_≡_, refl, sym, ap, _∙_, subst}
+use mathlib.Core.Path.{_≡_, refl}
 use Prim.Native.Nat.{ℕ, zero, suc, _+_, _*_, _/_, _%_, _≤_, _<_}
 use native.Mathlib.Omega.{arith}
 use mathlib.Core.Bool.{Bool, true, false, cond, _&&_}
 use lib.Dec.{T, eqb, leb, lit<}
-use lib.IntN.{ℤ, pos, negsuc, negℤ, natAbs}
+use lib.IntN.{ℤ, pos, natAbs}
 use lib.Signed.{ltZ, _<ℤ_, ltZ-yes}
 use lib.Ieee.{Float, nan, inf, fin, up, down}
 use lib.Ieee.Fits.{down-pos}
 use borrow.Author.Tests.{leb-true}
 use Rattle.refusal.specs.Rules as rule
 use Rattle.refusal.specs.Answer.{refuses}
-use Rattle.place.specs.Placing.{reach, signed, in1024ths, aboveZero, cellSide, need, reading, ofReading, between, onGround}
+use Rattle.place.specs.Placing.{reach, signed, in1024ths, aboveZero, cellSide, need, reading, between, onGround}
 use Rattle.place.specs.declared.Ground.{Ground}
 use Rattle.place.specs.declared.Whole.{Whole}
 use Rattle.place.specs.declared.Whole.the-variants.{Of, Nothing}

@@ -1,6 +1,5 @@
 -- `oboeridge::judge_lists` meets its contract: what each check found picks the refusal.
-use mathlib.Core.Path.{_≡_, sym, _∙_}
-use native.Mathlib.Omega.{arith}
+use mathlib.Core.Path.{sym, _∙_}
 use borrow.Author.Needs.{needs}
 use Rattle.oboeridge.proofs.overlays.judge_lists.Statement.{statement}
 use Rattle.oboeridge.proofs.overlays.judge_lists.Tie as tie

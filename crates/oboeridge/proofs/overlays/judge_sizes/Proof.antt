@@ -1,5 +1,5 @@
 -- `oboeridge::judge_sizes` meets its contract: each test picks the check that refuses.
-use mathlib.Core.Path.{_≡_, _∙_}
+use mathlib.Core.Path.{_∙_}
 use borrow.Author.Needs.{needs}
 use Rattle.oboeridge.proofs.overlays.judge_sizes.Statement.{statement}
 use Rattle.oboeridge.proofs.overlays.judge_sizes.Tie as tie

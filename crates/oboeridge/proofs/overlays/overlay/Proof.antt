@@ -1,5 +1,5 @@
 -- `oboeridge::overlay` meets its contract: what is judged bad is refused; what is right is painted, and the scene shows the overlay.
-use mathlib.Core.Path.{_≡_, ap, _∙_, subst}
+use mathlib.Core.Path.{_∙_}
 use lib.ListN.{length}
 use borrow.Author.Needs.{needs}
 use Rattle.oboeridge.proofs.overlays.overlay.Statement.{statement}

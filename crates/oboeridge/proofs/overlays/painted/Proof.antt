@@ -1,6 +1,6 @@
 -- `oboeridge::painted` meets its contract. A list that is counted first fits by the test, any other because 4 ^ w words hold every list.
-use mathlib.Core.Path.{_≡_, ap, _∙_}
-use Prim.Native.Nat.{ℕ, _≤_}
+use mathlib.Core.Path.{ap, _∙_}
+use Prim.Native.Nat.{_≤_}
 use native.Mathlib.Omega.{arith}
 use lib.ListN.{length}
 use borrow.Author.Needs.{needs}

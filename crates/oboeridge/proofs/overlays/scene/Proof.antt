@@ -1,5 +1,5 @@
 -- `oboeridge::scene` meets its contract: each field is the number that stands for a row or a column.
-use mathlib.Core.Path.{_≡_, ap, ap₂, _∙_}
+use mathlib.Core.Path.{ap, ap₂, _∙_}
 use native.Mathlib.Omega.{arith}
 use lib.IntN.{_-ℤ_}
 use borrow.Author.Needs.{needs}

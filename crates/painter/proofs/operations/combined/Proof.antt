@@ -1,10 +1,8 @@
-use mathlib.Core.Path.{_≡_, sym, _∙_}
-use Rattle.painter.specs.laws.Table.{intersection-white, intersection-else, union-white, union-else, difference-white, difference-else, difference-none, intersection-none}
+-- `painter::combined` meets its contract: a line of the table for each way out.
+use Rattle.painter.specs.laws.Table.{intersection-white, intersection-else, union-white, union-else, difference-white, difference-else}
 use borrow.Author.Needs.{needs}
 use Rattle.painter.proofs.operations.combined.Statement.{statement}
 use Rattle.painter.proofs.operations.combined.Tie as tie
-use Rattle.painter.proofs.operations.combined.Reads as reads
-use Rattle.painter.proofs.operations.combined.Lts as lts
 
 enum-told : tie.Need-enum-told
 enum-told c = search needs

@@ -1,12 +1,8 @@
+-- `painter::joint` meets its contract: by which of the two maps is known.
 use Rattle.painter.specs.laws.Table.{both-known, first-known, second-known, neither-known}
 use borrow.Author.Needs.{needs}
 use Rattle.painter.proofs.operations.joint.Statement.{statement}
 use Rattle.painter.proofs.operations.joint.Tie as tie
-use Rattle.painter.proofs.operations.joint.Reads as reads
-use Rattle.painter.proofs.operations.joint.Lts as lts
-use Rattle.painter.proofs.operations.combined.Reads as combined-reads
-use Rattle.painter.proofs.operations.first_alone.Reads as first-alone-reads
-use Rattle.painter.proofs.operations.second_alone.Reads as second-alone-reads
 
 combined-requires : tie.Need-combined-requires
 combined-requires c κs = search needs

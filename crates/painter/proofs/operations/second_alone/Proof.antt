@@ -1,10 +1,9 @@
-use mathlib.Core.Path.{_≡_, sym, _∙_}
-use Rattle.painter.specs.laws.Table.{intersection-white, intersection-else, union-white, union-else, difference-white, difference-else, difference-none, intersection-none, own-colour}
+-- `painter::second_alone` meets its contract: what it settles is settled whatever the first map's colour, by the table.
+use mathlib.Core.Path.{sym, _∙_}
+use Rattle.painter.specs.laws.Table.{difference-else, intersection-none}
 use borrow.Author.Needs.{needs}
 use Rattle.painter.proofs.operations.second_alone.Statement.{statement}
 use Rattle.painter.proofs.operations.second_alone.Tie as tie
-use Rattle.painter.proofs.operations.second_alone.Reads as reads
-use Rattle.painter.proofs.operations.second_alone.Lts as lts
 
 enum-told : tie.Need-enum-told
 enum-told c = search needs

@@ -1,6 +1,6 @@
 -- `painter::count` meets its contract, by recursion over the level: a block that shows one colour is it, and any other is its quarters
 -- joined. It ends since the level falls.
-use mathlib.Core.Path.{_≡_, sym, ap, _∙_}
+use mathlib.Core.Path.{_≡_, ap, _∙_}
 use Prim.Native.Nat.{ℕ, _+_, _*_, _-_, _^_, _<_}
 use native.Mathlib.Omega.{arith}
 use denote.Ref.{now}
@@ -18,7 +18,7 @@ use Rattle.shortest.proofs.joined.Reads as joined-reads
 use Rattle.morton.specs.laws.Block.{block-level}
 use Rattle.shortest.specs.Part.{part}
 use Rattle.shortest.specs.laws.Quarters.{four-counted, four-sizes}
-use Rattle.painter.specs.Scene.{cellOf, picture}
+use Rattle.painter.specs.Scene.{picture}
 use Rattle.painter.specs.laws.Blocks.{coloured, told-one, told-mixed, shows-part, probes, Four, four}
 
 abbrev μ-count : Measures 3 count-kinds.ps ℕ

@@ -1,6 +1,6 @@
 -- `painter::put` meets its contract, by recursion over the level: a block that shows one colour writes nothing; of any other each quarter is
 -- written after those before it, and `finish` makes the block of them. It ends since the level falls.
-use mathlib.Core.Path.{_≡_, refl, sym, ap, _∙_}
+use mathlib.Core.Path.{_≡_, refl, ap, _∙_}
 use Prim.Native.Nat.{ℕ, suc, _+_, _*_, _-_, _^_, _<_, _≤_}
 use native.Mathlib.Omega.{arith}
 use lib.Seq.{sets}

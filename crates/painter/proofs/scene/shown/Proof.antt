@@ -1,13 +1,10 @@
+-- `painter::shown` meets its contract: settled early by what was known of the second map, or by what both maps tell.
 use Rattle.probe.specs.Seen.{seenOf}
 use Rattle.probe.specs.laws.About.{tells-holds}
 use Rattle.painter.specs.laws.Settling.{first-about, second-about, early-told, both-told}
 use borrow.Author.Needs.{needs}
 use Rattle.painter.proofs.scene.shown.Statement.{statement}
 use Rattle.painter.proofs.scene.shown.Tie as tie
-use Rattle.painter.proofs.scene.shown.Reads as reads
-use Rattle.painter.proofs.scene.shown.Lts as lts
-use Rattle.painter.proofs.operations.joint.Reads as joint-reads
-use Rattle.probe.proofs.square.ask.Reads as ask-reads
 
 add-ask : tie.Need-add-ask
 add-ask c = search needs
