@@ -2,9 +2,9 @@
 use mathlib.Core.Path.{_≡_, subst}
 use mathlib.Core.List.{List}
 use mathlib.Core.Logic.{_↔_}
-use Prim.Native.Nat.{ℕ, _^_, _<_, _≤_}
+use Prim.Native.Nat.{ℕ, _+_, _*_, _^_, _<_, _≤_}
 use lib.IntN.{ℤ, pos}
-use lib.ListN.{length, drop}
+use lib.ListN.{length, drop, getD}
 use Rattle.refusal.specs.Answer.{Answer, gives, refuses}
 use Rattle.tiling.specs.Leaf.{colours}
 use Rattle.tiling.specs.Map.{limit, colourAt, colourIn}
@@ -28,7 +28,7 @@ use Rattle.oboeridge.specs.Neighbour.{neighbour}
 use Rattle.oboeridge.specs.Rasters.{rasterToList, listToRaster}
 use Rattle.oboeridge.specs.Allowed.{Checks, Looks, Nears, Lists, Rasters, Overlays, Windows, NoRoom}
 use Rattle.oboeridge.specs.Overlay.{windowOf, windowCell, overlayCell, byCode, overlaid, windowed}
-use Rattle.oboeridge.specs.laws.Promises.{overlay-refused, window-refused, only, refused-keeps, given-keeps}
+use Rattle.oboeridge.specs.laws.Promises.{overlay-refused, window-refused, list-refused, list-shown, raster-shown, only, refused-keeps, given-keeps}
 use Rattle.refusal.specs.Rules as rule
 use Rattle.oboeridge.specs.laws.Overlays.{overlaid-allowed, allowed-overlaid, windows, from-windows, shown, overlay-list, window-list}
 use Rattle.oboeridge.specs.declared.overlays.Window.{Window}
@@ -98,14 +98,22 @@ pub window-cells : (n : ℕ) (a : List ℕ) (w : Window) (space : ℕ) (l : List
     → WellFormed (w .size) l × ((y x : ℕ) → y < 2 ^ w .size → x < 2 ^ w .size → colourIn (w .size) l (pos y) (pos x) ≡ windowCell n a w y x)
 window-cells n a w space l e = let z = window-list n a w space l e in (z .1 .formed, shown _ _ l (z .0) (z .1))
 
+pub list-cells : (n : ℕ) (cells : List ℕ) (space : ℕ) → ((j : ℕ) → pixel n cells j < colours) → (l : List ℕ) → rasterToList n cells space ≡ gives l
+    → WellFormed n l × ((y x : ℕ) → y < 2 ^ n → x < 2 ^ n → colourIn n l (pos y) (pos x) ≡ getD cells (y * 2 ^ n + x) 0)
+list-cells n cells space coloured l e = let z = list-shown n cells space coloured l e in (z .1 .formed, raster-shown n cells l (z .0) (z .1))
+
 -- Demand 3: "no room" is said exactly when no list that shows the picture fits, with the length of the shortest. (That it is said
--- then is `overlay-exactly` and `window-exactly`.)
+-- then is `overlay-exactly`, `window-exactly` and `list-exactly`.)
 pub overlay-room : (o : Operation) (n : ℕ) (a : List ℕ) (m : ℕ) (b : List ℕ) (s : Shift) (f : Frame) (space k : ℕ)
     → overlaid o n a m b s f space ≡ refuses rule.noRoom k → NoRoom (byCode (overlayCell o n a m b s (windowOf n f))) (windowOf n f .size) space k
 overlay-room = overlay-refused
 
 pub window-room : (n : ℕ) (a : List ℕ) (w : Window) (space k : ℕ) → windowed n a w space ≡ refuses rule.noRoom k → NoRoom (byCode (windowCell n a w)) (w .size) space k
 window-room = window-refused
+
+pub list-room : (n : ℕ) (cells : List ℕ) (space : ℕ) → ((j : ℕ) → pixel n cells j < colours) → (k : ℕ)
+    → rasterToList n cells space ≡ refuses rule.noRoom k → NoRoom (pixel n cells) n space k
+list-room = list-refused
 
 -- Demand 3: an accepted list is the shortest, and the only one of its length.
 pub overlay-shortest : (o : Operation) (n : ℕ) (a : List ℕ) (m : ℕ) (b : List ℕ) (s : Shift) (f : Frame) (space : ℕ) (l : List ℕ)
@@ -114,6 +122,10 @@ overlay-shortest o n a m b s f space l e = overlay-list o n a m b s f space l e 
 
 pub window-shortest : (n : ℕ) (a : List ℕ) (w : Window) (space : ℕ) (l : List ℕ) → windowed n a w space ≡ gives l → IsShortest (byCode (windowCell n a w)) (w .size) l
 window-shortest n a w space l e = window-list n a w space l e .1
+
+pub list-shortest : (n : ℕ) (cells : List ℕ) (space : ℕ) → ((j : ℕ) → pixel n cells j < colours) → (l : List ℕ)
+    → rasterToList n cells space ≡ gives l → IsShortest (pixel n cells) n l
+list-shortest n cells space coloured l e = list-shown n cells space coloured l e .1
 
 pub shortest-only : (f : ℕ → ℕ) (n : ℕ) (l : List ℕ) → n ≤ limit → ((k : ℕ) → f k < colours) → IsShortest f n l
     → (other : List ℕ) → WellFormed n other → ShowsPicture f n other → length other ≤ length l → other ≡ l

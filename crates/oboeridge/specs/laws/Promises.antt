@@ -1,13 +1,18 @@
 -- What follows from an outcome's being allowed: of no room, of the only shortest list, of the memory.
 use mathlib.Core.Path.{_≡_, refl, sym, ap, _∙_, subst}
 use mathlib.Core.List.{List, [], _∷_, _++_}
-use Prim.Native.Nat.{ℕ, _<_, _≤_}
+use Prim.Native.Nat.{ℕ, _+_, _*_, _^_, _<_, _≤_}
 use native.Mathlib.Omega.{arith}
-use lib.ListN.{length, drop}
+use lib.IntN.{pos}
+use lib.ListN.{length, drop, getD}
+use lib.Pow.{pow-mono}
+use borrow.Author.Tests.{lt-ltb}
 use Rattle.refusal.specs.Rules as rule
 use Rattle.refusal.specs.Answer.{gives, refuses}
 use Rattle.tiling.specs.Leaf.{colours}
-use Rattle.tiling.specs.Map.{limit}
+use Rattle.morton.specs.Code.{code}
+use Rattle.morton.specs.laws.Code.{code-inside}
+use Rattle.tiling.specs.Map.{limit, colourIn}
 use Rattle.tiling.specs.WellFormed.{WellFormed}
 use Rattle.shortest.specs.Shortest.{ShowsPicture}
 use Rattle.shortest.specs.Demand.{IsShortest}
@@ -16,7 +21,11 @@ use Rattle.shortest.specs.laws.Only.{only-shortest}
 use Rattle.place.specs.declared.Shift.{Shift}
 use Rattle.painter.specs.declared.operations.Operation.{Operation}
 use Rattle.oboeridge.specs.Overlay.{windowOf, windowCell, overlayCell, byCode, overlaid, windowed}
-use Rattle.oboeridge.specs.Allowed.{Overlays, Windows, NoRoom}
+use Rattle.rasters.specs.Raster.{pixel}
+use Rattle.rasters.specs.laws.Pixel.{pixel-at}
+use Rattle.oboeridge.specs.Rasters.{rasterToList}
+use Rattle.oboeridge.specs.laws.Cells.{lists}
+use Rattle.oboeridge.specs.Allowed.{Lists, Overlays, Windows, NoRoom}
 use Rattle.oboeridge.specs.laws.Overlays.{overlaid-allowed, windows}
 use Rattle.oboeridge.specs.declared.overlays.Window.{Window}
 use Rattle.oboeridge.specs.declared.overlays.Frame.{Frame}
@@ -67,6 +76,38 @@ overlay-refused o n a m b s f space k e =
 
 pub window-refused : (n : ℕ) (a : List ℕ) (w : Window) (space k : ℕ) → windowed n a w space ≡ refuses rule.noRoom k → NoRoom (byCode (windowCell n a w)) (w .size) space k
 window-refused n a w space k e = subst (Told (byCode (windowCell n a w)) (w .size) space) e (window-told n a w space _ (windows n a w space)) refl
+
+-- ---- raster to list
+list-told : (n : ℕ) (cells : List ℕ) (space : ℕ) (x : Outcome) → Lists n cells space x → Told (pixel n cells) n space x
+list-told n cells space x (Lists.size h) = λ e. absurd (omega arith)
+list-told n cells space x (Lists.raster p h) = λ e. absurd (omega arith)
+list-told n cells space x (Lists.room {l = l} p q i h) = λ e. no-room (pixel n cells) n space l i h
+list-told n cells space x (Lists.right p q i h) = tt
+
+abbrev Listed : ℕ → List ℕ → Outcome → Type 0
+Listed n cells (gives l) = (n ≤ limit) × IsShortest (pixel n cells) n l
+Listed n cells (refuses r k) = Unit {0}
+
+list-given : (n : ℕ) (cells : List ℕ) (space : ℕ) (x : Outcome) → Lists n cells space x → Listed n cells x
+list-given n cells space x (Lists.size h) = tt
+list-given n cells space x (Lists.raster p h) = tt
+list-given n cells space x (Lists.room p q i h) = tt
+list-given n cells space x (Lists.right p q i h) = (p, i)
+
+module _ (n : ℕ) (cells : List ℕ) (space : ℕ) (coloured : (j : ℕ) → pixel n cells j < colours) where
+  pub list-refused : (k : ℕ) → rasterToList n cells space ≡ refuses rule.noRoom k → NoRoom (pixel n cells) n space k
+  list-refused k e = subst (Told (pixel n cells) n space) e (list-told n cells space _ (lists n cells space coloured)) refl
+
+  pub list-shown : (l : List ℕ) → rasterToList n cells space ≡ gives l → (n ≤ limit) × IsShortest (pixel n cells) n l
+  list-shown l e = subst (Listed n cells) e (list-given n cells space _ (lists n cells space coloured))
+
+-- the cells of a list that shows a raster
+pub raster-shown : (n : ℕ) (cells l : List ℕ) → n ≤ limit → IsShortest (pixel n cells) n l
+    → (y x : ℕ) → y < 2 ^ n → x < 2 ^ n → colourIn n l (pos y) (pos x) ≡ getD cells (y * 2 ^ n + x) 0
+unfolding colourIn
+raster-shown n cells l low i y x hy hx =
+    let q : 2 ^ n ≤ 2 ^ 12 = pow-mono low in
+    rw (lt-ltb y (2 ^ n) hy, lt-ltb x (2 ^ n) hx) (i .shows (code y x) (code-inside n y x (omega arith) hy hx) ∙ pixel-at n cells y x (omega arith) (omega arith))
 
 -- ---- a shortest list is the only one of its length
 pub only : (f : ℕ → ℕ) (n : ℕ) (l : List ℕ) → n ≤ limit → ((k : ℕ) → f k < colours) → IsShortest f n l → (other : List ℕ) → WellFormed n other → ShowsPicture f n other → length other ≤ length l → other ≡ l
