@@ -4,7 +4,7 @@ use Prim.Native.Nat.{ℕ}
 use lib.Dec.{ltb}
 use lib.IntN.{ℤ, pos, _+ℤ_, _-ℤ_}
 use Rattle.refusal.specs.Rules as rule
-use Rattle.refusal.specs.Answer.{refuses, refuseIf}
+use Rattle.refusal.specs.Answer.{refuseIf}
 use Rattle.morton.specs.Code.{rowOf, columnOf}
 use Rattle.tiling.specs.Map.{limit, colourIn}
 use Rattle.tiling.specs.Check.{checked}
@@ -18,8 +18,6 @@ use Rattle.oboeridge.specs.Lists.{refuseWrong}
 use Rattle.oboeridge.specs.declared.overlays.Window.{Window}
 use Rattle.oboeridge.specs.declared.overlays.Frame.{Frame}
 use Rattle.oboeridge.specs.declared.overlays.Frame.the-variants.{OfFirst, At}
-use Rattle.oboeridge.specs.declared.overlays.Verdict.{Verdict}
-use Rattle.oboeridge.specs.declared.overlays.Verdict.the-variants.{Fine, Bad}
 
 -- where no window is named, it is the first map's own square
 abbrev pub windowOf : ℕ → Frame → Window
@@ -52,11 +50,6 @@ offsets dy dx wy wx after =
 -- 3, 4: a list is not well formed
 abbrev pub lists : ℕ → List ℕ → ℕ → List ℕ → Outcome → Outcome
 lists n a m b after = refuseWrong rule.firstList (checked n a) (refuseWrong rule.secondList (checked m b) after)
-
--- what the code has found, and else what comes after
-abbrev pub unless : Verdict → Outcome → Outcome
-unless Fine after = after
-unless (Bad r) after = refuses (r .rule) (r .number)
 
 -- 1, 2, 3, 4
 abbrev pub judged : ℕ → List ℕ → ℕ → List ℕ → Shift → Window → Outcome → Outcome

@@ -1,12 +1,22 @@
--- The painter's scene of an overlay: the window's first cell in each map, at biased rows and columns.
+-- What the steps of an overlay mean: a verdict, and the painter's scene.
 use Prim.Native.Nat.{ℕ}
 use lib.IntN.{_-ℤ_}
+use Rattle.refusal.specs.Answer.{refuses}
 use Rattle.probe.specs.Biased.{biased}
+use Rattle.shortest.specs.Outcome.{Outcome}
 use Rattle.place.specs.declared.Shift.{Shift}
 use Rattle.painter.specs.declared.operations.Operation.{Operation}
 use Rattle.painter.specs.declared.scene.Scene.{Scene}
 use Rattle.oboeridge.specs.declared.overlays.Window.{Window}
+use Rattle.oboeridge.specs.declared.overlays.Verdict.{Verdict}
+use Rattle.oboeridge.specs.declared.overlays.Verdict.the-variants.{Fine, Bad}
 
+-- what the checks have found, and else what comes after
+abbrev pub unless : Verdict → Outcome → Outcome
+unless Fine after = after
+unless (Bad r) after = refuses (r .rule) (r .number)
+
+-- the window's first cell in each map, at biased rows and columns
 abbrev pub sceneOf : Operation → ℕ → ℕ → Shift → Window → Scene
 sceneOf o n m s w = record {
   operation = o;

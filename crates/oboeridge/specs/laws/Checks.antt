@@ -17,7 +17,8 @@ use Rattle.tiling.specs.declared.Checked.the-variants.{Tiles, Wrong}
 use Rattle.shortest.specs.Outcome.{Outcome}
 use Rattle.place.specs.Placing.{far}
 use Rattle.oboeridge.specs.Lists.{refuseWrong}
-use Rattle.oboeridge.specs.Overlay.{sizes, offsets, lists, judged, unless}
+use Rattle.oboeridge.specs.Overlay.{sizes, offsets, lists, judged}
+use Rattle.oboeridge.specs.Scenes.{unless}
 use Rattle.place.specs.declared.Shift.{Shift}
 use Rattle.oboeridge.specs.declared.overlays.Window.{Window}
 use Rattle.oboeridge.specs.declared.overlays.Verdict.{Verdict}

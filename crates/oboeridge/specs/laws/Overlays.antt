@@ -175,12 +175,17 @@ module _ (n : ℕ) (a : List ℕ) (w : Window) (space : ℕ) where
       go false e false f false g false h Tiles k = window-room (ltb-false _ _ e) (ltb-false _ _ f) g h (tiles-formed n a k)
 
 -- ---- the cells of a list that shows a picture
-pub shown : (g : ℕ → ℕ → ℕ) (n : ℕ) (l : List ℕ) → n ≤ limit → IsShortest (byCode g) n l → (y x : ℕ) → y < 2 ^ n → x < 2 ^ n → colourIn n l (pos y) (pos x) ≡ g y x
+pub shown-at : (f : ℕ → ℕ) (n : ℕ) (l : List ℕ) → n ≤ limit → IsShortest f n l → (y x : ℕ) → y < 2 ^ n → x < 2 ^ n → colourIn n l (pos y) (pos x) ≡ f (code y x)
 unfolding colourIn
+shown-at f n l low i y x hy hx = rw (lt-ltb y (2 ^ n) hy, lt-ltb x (2 ^ n) hx) (i .shows (code y x) (code-inside n y x (omega arith) hy hx))
+
+pub cell-bits : (n y : ℕ) → n ≤ limit → y < 2 ^ n → y < 2 ^ 16
+cell-bits n y low h = let q : 2 ^ n ≤ 2 ^ 12 = pow-mono low in omega arith
+
+pub shown : (g : ℕ → ℕ → ℕ) (n : ℕ) (l : List ℕ) → n ≤ limit → IsShortest (byCode g) n l → (y x : ℕ) → y < 2 ^ n → x < 2 ^ n → colourIn n l (pos y) (pos x) ≡ g y x
 shown g n l low i y x hy hx =
-    let q : 2 ^ n ≤ 2 ^ 12 = pow-mono low in
-    let c = cell-of-code y x (omega arith) (omega arith) in
-    rw (lt-ltb y (2 ^ n) hy, lt-ltb x (2 ^ n) hx) (i .shows (code y x) (code-inside n y x (omega arith) hy hx) ∙ ap₂ g (c .0) (c .1))
+    let c = cell-of-code y x (cell-bits n y low hy) (cell-bits n x low hx) in
+    shown-at (byCode g) n l low i y x hy hx ∙ ap₂ g (c .0) (c .1)
 
 -- what an outcome that is given says of its list
 abbrev Given : (ℕ → ℕ → ℕ) → ℕ → Outcome → Type 0

@@ -5,13 +5,9 @@ use Prim.Native.Nat.{ℕ, _+_, _*_, _^_, _<_, _≤_}
 use native.Mathlib.Omega.{arith}
 use lib.IntN.{pos}
 use lib.ListN.{length, drop, getD}
-use lib.Pow.{pow-mono}
-use borrow.Author.Tests.{lt-ltb}
 use Rattle.refusal.specs.Rules as rule
 use Rattle.refusal.specs.Answer.{gives, refuses}
 use Rattle.tiling.specs.Leaf.{colours}
-use Rattle.morton.specs.Code.{code}
-use Rattle.morton.specs.laws.Code.{code-inside}
 use Rattle.tiling.specs.Map.{limit, colourIn}
 use Rattle.tiling.specs.WellFormed.{WellFormed}
 use Rattle.shortest.specs.Shortest.{ShowsPicture}
@@ -26,7 +22,7 @@ use Rattle.rasters.specs.laws.Pixel.{pixel-at}
 use Rattle.oboeridge.specs.Rasters.{rasterToList}
 use Rattle.oboeridge.specs.laws.Cells.{lists}
 use Rattle.oboeridge.specs.Allowed.{Lists, Overlays, Windows, NoRoom}
-use Rattle.oboeridge.specs.laws.Overlays.{overlaid-allowed, windows}
+use Rattle.oboeridge.specs.laws.Overlays.{overlaid-allowed, windows, shown-at, cell-bits}
 use Rattle.oboeridge.specs.declared.overlays.Window.{Window}
 use Rattle.oboeridge.specs.declared.overlays.Frame.{Frame}
 
@@ -104,10 +100,7 @@ module _ (n : ℕ) (cells : List ℕ) (space : ℕ) (coloured : (j : ℕ) → pi
 -- the cells of a list that shows a raster
 pub raster-shown : (n : ℕ) (cells l : List ℕ) → n ≤ limit → IsShortest (pixel n cells) n l
     → (y x : ℕ) → y < 2 ^ n → x < 2 ^ n → colourIn n l (pos y) (pos x) ≡ getD cells (y * 2 ^ n + x) 0
-unfolding colourIn
-raster-shown n cells l low i y x hy hx =
-    let q : 2 ^ n ≤ 2 ^ 12 = pow-mono low in
-    rw (lt-ltb y (2 ^ n) hy, lt-ltb x (2 ^ n) hx) (i .shows (code y x) (code-inside n y x (omega arith) hy hx) ∙ pixel-at n cells y x (omega arith) (omega arith))
+raster-shown n cells l low i y x hy hx = shown-at (pixel n cells) n l low i y x hy hx ∙ pixel-at n cells y x (cell-bits n y low hy) (cell-bits n x low hx)
 
 -- ---- a shortest list is the only one of its length
 pub only : (f : ℕ → ℕ) (n : ℕ) (l : List ℕ) → n ≤ limit → ((k : ℕ) → f k < colours) → IsShortest f n l → (other : List ℕ) → WellFormed n other → ShowsPicture f n other → length other ≤ length l → other ≡ l

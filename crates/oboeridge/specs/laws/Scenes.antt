@@ -26,9 +26,9 @@ use Rattle.painter.specs.Scene.{cellOf, picture}
 use Rattle.painter.specs.Painting.{Paints}
 use Rattle.painter.specs.declared.operations.Operation.{Operation}
 use Rattle.painter.specs.declared.scene.Scene.{Scene}
-use Rattle.oboeridge.specs.Overlay.{windowOf, overlayCell, byCode, unless, judged, overlaid}
+use Rattle.oboeridge.specs.Overlay.{windowOf, overlayCell, byCode, judged, overlaid}
 use Rattle.oboeridge.specs.declared.overlays.Frame.{Frame}
-use Rattle.oboeridge.specs.Scenes.{sceneOf}
+use Rattle.oboeridge.specs.Scenes.{unless, sceneOf}
 use Rattle.oboeridge.specs.laws.Checks.{Near, Right, judged-right, fine-passes}
 use Rattle.oboeridge.specs.declared.overlays.Verdict.{Verdict}
 use Rattle.oboeridge.specs.declared.overlays.Verdict.the-variants.{Fine, Bad}

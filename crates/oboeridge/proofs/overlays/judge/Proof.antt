@@ -7,7 +7,8 @@ use Rattle.tiling.specs.laws.Signed.{held}
 use mathlib.Core.List.{[]}
 use Rattle.refusal.specs.Answer.{gives}
 use Rattle.shortest.specs.Outcome.{Outcome}
-use Rattle.oboeridge.specs.Overlay.{unless, sizes, offsets, lists}
+use Rattle.oboeridge.specs.Overlay.{sizes, offsets, lists}
+use Rattle.oboeridge.specs.Scenes.{unless}
 use Rattle.oboeridge.specs.laws.Checks.{bad-any, fine-passes, sizes-pass}
 
 judge-sizes-requires : tie.Need-judge-sizes-requires
