@@ -3,6 +3,7 @@ pub mod Flat
 pub mod Paint
 pub mod Tiling
 pub mod Part
+pub mod Stores
 pub mod Written
 pub mod Quarters
 pub mod Outcome

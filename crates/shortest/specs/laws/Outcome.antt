@@ -2,10 +2,10 @@
 use mathlib.Core.Path.{_≡_, refl, sym, ap, _∙_}
 use mathlib.Core.List.{List, _++_}
 use Prim.Native.Nat.{ℕ, _+_, _-_, _^_, _≤_, _<_}
-use native.Mathlib.Nat.{zero-add, pow-le-pow-right}
+use native.Mathlib.Nat.{pow-le-pow-right}
 use native.Mathlib.Omega.{arith}
 use lib.ListN.{length, drop}
-use lib.Seq.{sets, sets-eq}
+use lib.Seq.{sets}
 use borrow.Author.Tests.{lt-ltb, le-ltb}
 use Rattle.refusal.specs.Rules as rule
 use Rattle.refusal.specs.Answer.{gives, refuses}
@@ -15,6 +15,7 @@ use Rattle.shortest.specs.Shortest.{shortest}
 use Rattle.shortest.specs.Part.{part, sizeOf}
 use Rattle.shortest.specs.Outcome.{Outcome, fitting, written, left}
 use Rattle.shortest.specs.Written.{inner, filled, Fills, Placed}
+use Rattle.shortest.specs.laws.Stores.{sets-front}
 use Rattle.shortest.specs.laws.Part.{many-size, part-size, part-small, shortest-size}
 use Rattle.shortest.specs.laws.Written.{filled-inner}
 
@@ -48,7 +49,7 @@ module _ (f : ℕ → ℕ) (coloured : (j : ℕ) → f j < colours) (n : ℕ) (l
       whole-left wrote =
           let s : List ℕ = shortest f n 0 in
           let y : filled o₁ 0 p 0 n ≡ sets o 0 s = cc (filled-inner f coloured o 0 n 0) in
-          y ∙ sets-eq s o 0 (omega arith) ∙ ap (λ (d : ℕ). s ++ drop d o) (zero-add (length s))
+          y ∙ sets-front s o fits
 
   pub whole-size : (p : ℕ) → p ≡ part f n 0 → sizeOf p ≡ length (shortest f n 0)
   whole-size p e = ap sizeOf e ∙ part-size f coloured n 0

@@ -5,38 +5,17 @@ use mathlib.Core.List.{List, [], _∷_, _++_}
 use Prim.Native.Nat.{ℕ, zero, suc, _+_, _*_, _^_, _≤_, _<_}
 use native.Mathlib.Omega.{arith}
 use lib.Dec.{ltb}
-use lib.ListN.{length, set, length-append, length-set}
-use lib.Seq.{sets, set-comm}
+use lib.ListN.{length, set, length-set}
+use lib.Seq.{sets}
 use borrow.Author.Tests.{lt-ltb, le-ltb, ltb-true, ltb-false}
 use Rattle.tiling.specs.Leaf.{leaf, colours}
 use Rattle.shortest.specs.Shortest.{uniform, shortest}
 use Rattle.shortest.specs.Part.{part, isOne, sizeOf, joined}
 use Rattle.shortest.specs.Written.{inner, filled, settled, finished}
+use Rattle.shortest.specs.laws.Stores.{sets-four, set-sets}
 use Rattle.shortest.specs.laws.Flat.{Flat, uniform-flat, flat-uniform}
 use Rattle.shortest.specs.laws.Paint.{shortest-one, shortest-four}
 use Rattle.shortest.specs.laws.Part.{part-one, part-many, part-size, part-small, part-joined, one-uniform, many-uniform}
-
--- ---- runs of stores
-
--- one after another
-sets-append : (a b l : List ℕ) (i j : ℕ) → j ≡ i + length a → sets (sets l i a) j b ≡ sets l i (a ++ b)
-sets-append [] b l i j e = let q : j ≡ i = omega arith in ap (λ (n : ℕ). sets l n b) q
-sets-append (x ∷ a) b l i j e = sets-append a b (set l i x) (suc i) j (omega arith)
-
-sets-four : (a b c d o : List ℕ) (i i₁ i₂ i₃ : ℕ) → i₁ ≡ i + length a → i₂ ≡ i₁ + length b → i₃ ≡ i₂ + length c
-    → sets (sets (sets (sets o i a) i₁ b) i₂ c) i₃ d ≡ sets o i (a ++ b ++ c ++ d)
-sets-four a b c d o i i₁ i₂ i₃ e₁ e₂ e₃ =
-    ap (λ x. sets (sets x i₂ c) i₃ d) (sets-append a b o i i₁ e₁)
-    ∙ ap (λ x. sets x i₃ d) (sets-append (a ++ b) c o i i₂ (omega (arith, length-append a b)))
-    ∙ sets-append (a ++ b ++ c) d o i i₃ (omega (arith, length-append (a ++ b) c, length-append a b))
-
--- a store before a run of stores
-set-sets : (vs l : List ℕ) (i j v : ℕ) → i < j → set (sets l j vs) i v ≡ sets (set l i v) j vs
-set-sets [] l i j v h = refl
-set-sets (a ∷ vs) l i j v h =
-    set-sets vs (set l j a) i (suc j) v (omega arith) ∙ ap (λ (o : List ℕ). sets o (suc j) vs) (set-comm l j i a v (omega arith))
-
--- ---- parts stored
 
 pub filled-one : (out : List ℕ) (at p k L : ℕ) → p < colours → filled out at p k L ≡ set out at (leaf k L p)
 unfolding filled

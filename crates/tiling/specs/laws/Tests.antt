@@ -11,6 +11,14 @@ and-both false b h = absurd (false≢true h)
 pub both-and : (a b : Bool) → a ≡ true → b ≡ true → (a && b) ≡ true
 both-and a b p q = ap (λ x. x && b) p ∙ q
 
+-- and fails if one of them fails
+pub and-first : (a b : Bool) → a ≡ false → (a && b) ≡ false
+and-first a b e = ap (λ x. x && b) e
+
+pub and-second : (a b : Bool) → b ≡ false → (a && b) ≡ false
+and-second true b e = e
+and-second false b e = refl
+
 -- a disjunction holds exactly if one of the two does
 pub or-either : (a b : Bool) → (a || b) ≡ true → (a ≡ true) ⊎ (b ≡ true)
 or-either true b h = inl refl
