@@ -1,0 +1,4 @@
+pub mod Text
+pub mod Header
+pub mod Stores
+pub mod Picture
