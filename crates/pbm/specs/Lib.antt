@@ -1,6 +1,7 @@
 pub mod Bytes
+pub mod Picture
 pub mod Reading
-pub mod Lines
 pub mod Steps
 pub mod Answers
+pub mod Demands
 pub mod laws

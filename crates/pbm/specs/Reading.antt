@@ -5,8 +5,8 @@ use Prim.Native.Nat.{ℕ, zero, suc, _+_, _*_, _-_, _^_}
 use lib.Dec.{ltb, eqb}
 use lib.ListN.{length, drop}
 use Rattle.refusal.specs.Rules as rule
-use Rattle.refusal.specs.Answer.{Answer, gives, refuses, refuseIf}
-use Rattle.shortest.specs.Outcome.{Outcome}
+use Rattle.refusal.specs.Answer.{Answer, gives, refuseIf}
+use Rattle.pbm.specs.Picture.{Picture}
 use Rattle.pbm.specs.Bytes.{isSpace, endsLine, isDigit, isCell, hash, zeroDigit, longest, sizes}
 
 -- what follows a comment: it goes up to the next LF or CR
@@ -90,10 +90,6 @@ unfoldable pub cells : List ℕ → List ℕ
 cells [] = []
 cells (b ∷ t) = cond (isSpace b) (cells t) ((b - zeroDigit) ∷ cells t)
 
-pub record Picture : Type 0 where
-  pub ofSize : ℕ
-  pub ofCells : List ℕ
-
 -- the picture that a text is read as; else it is refused
 abbrev pub unread : Bool → Answer Picture → Answer Picture
 unread test after = refuseIf test rule.pictureText 0 after
@@ -105,12 +101,3 @@ picture t =
     (unread (not (onlyCells (atCells t)))
     (unread (not (eqb (length (cells (atCells t))) (4 ^ size t)))
     (gives (record { ofSize = size t; ofCells = cells (atCells t) })))))
-
--- the answer gives the size; the cells are written into the memory lent
-abbrev pub sizeGiven : Answer Picture → Answer ℕ
-sizeGiven (gives p) = gives (p .ofSize)
-sizeGiven (refuses rule number) = refuses rule number
-
-abbrev pub cellsGiven : Answer Picture → Outcome
-cellsGiven (gives p) = gives (p .ofCells)
-cellsGiven (refuses rule number) = refuses rule number

@@ -1,4 +1,5 @@
 pub mod Text
 pub mod Header
-pub mod Stores
 pub mod Picture
+pub mod Exactly
+pub mod OneAnswer

@@ -8,11 +8,17 @@ use borrow.Author.Needs.{needs}
 use Rattle.leaves.proofs.main.Tie as tie
 use Rattle.leaves.proofs.main.Statement.{statement}
 
+no-text-requires : tie.Need-no-text-requires
+no-text-requires c κs = search needs
+
 slice-aggregate-read-full : tie.Need-slice-aggregate-read-full
 slice-aggregate-read-full c = search needs
 
 read-full-requires : tie.Need-read-full-requires
 read-full-requires c κs = search needs
+
+no-lines-requires : tie.Need-no-lines-requires
+no-lines-requires c κs = search needs
 
 array-share-prefix-text : tie.Need-array-share-prefix-text
 array-share-prefix-text c = search needs
@@ -42,8 +48,10 @@ pub main-spec : {M : Type 1} → statement M
 main-spec =
     tie.close
     (tie.spec
+    no-text-requires
     slice-aggregate-read-full
     read-full-requires
+    no-lines-requires
     array-share-prefix-text
     slice-aggregate-leaves
     leaves-requires

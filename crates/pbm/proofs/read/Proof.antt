@@ -14,7 +14,7 @@ use Rattle.refusal.specs.Answer.{gives}
 use Rattle.pbm.specs.Reading.{atCells, size}
 use Rattle.pbm.specs.laws.Picture.{tells, too-long, no-header, not-only-cells, not-so-many, reads-picture}
 use Rattle.pbm.specs.Steps.{Headed}
-use Rattle.pbm.specs.laws.Header.{header-size, few-cells}
+use Rattle.pbm.specs.laws.Header.{header-all, few-cells}
 use Rattle.pbm.specs.Reading.{cells, onlyCells}
 use Rattle.shortest.specs.laws.Stores.{sets-front}
 use Rattle.pbm.specs.declared.header.Header.the-variants.{Of}
@@ -64,7 +64,7 @@ count-requires : tie.Need-count-requires
 count-requires c κs = heads (c .before .before) .2 .within
 
 area-requires : tie.Need-area-requires
-area-requires c κs = let h = heads (c .before .before .before) in omega (arith, h .1, header-size (c .before .before .before .before .before .before .before .before .before .args .text .now) (h .0))
+area-requires c κs = let h = heads (c .before .before .before) in omega (arith, h .1, header-all (c .before .before .before .before .before .before .before .before .before .args .text .now) (h .0) .sized)
 
 unread-requires-4 : tie.Need-unread-requires-4
 unread-requires-4 c κs = search needs
@@ -90,7 +90,7 @@ returns-4 c =
 few : (c : tie.Else3) → length (cells (atCells (c .before .before .before .before .before .before .before .before .before .before .before .args .text .now))) ≤ 1024
 few c =
     let t = c .before .before .before .before .before .before .before .before .before .before .before .args .text .now in
-    omega (arith, sym (counted (c .before .before)) ∙ c .if3 .left ∙ whole (c .before), few-cells (size t) (header-size t (heads (c .before .before .before .before .before) .0)))
+    omega (arith, sym (counted (c .before .before)) ∙ c .if3 .left ∙ whole (c .before), few-cells (size t) (header-all t (heads (c .before .before .before .before .before) .0) .sized))
 
 put-requires : tie.Need-put-requires
 put-requires c κs =

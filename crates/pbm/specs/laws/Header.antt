@@ -7,7 +7,7 @@ use native.Mathlib.Nat.{pow-le-pow-right}
 use native.Mathlib.Omega.{arith}
 use lib.Dec.{eqb, ltb, leb}
 use lib.ListN.{length, getD, drop}
-use borrow.Author.Tests.{ne-eqb, eq-eqb, leb-true, lt-ltb, le-ltb, ltb-true, ltb-false}
+use borrow.Author.Tests.{ne-eqb, eq-eqb, leb-true, lt-ltb, le-ltb, ltb-true, ltb-false, eqb-true}
 use Rattle.tiling.specs.laws.Tests.{and-both, both-and, and-first, and-second}
 use Rattle.pbm.specs.Bytes.{isDigit}
 use Rattle.pbm.specs.Reading.{pastBlanks, pastDigits, number, pastField, isField, field, sizeFrom, sizeOf, isPlain, atWidth, atHeight, size, isHeader}
@@ -76,6 +76,14 @@ pub field-past : {text : List ℕ} {at start : ℕ} {r : Number} → Past text a
     → (r .value ≡ capped (field (drop at text))) × Past text at (r .next) (pastField (drop at text))
 field-past p n = (n .value ∙ ap (λ t. capped (number 0 t)) (p .is), record { onward = omega (arith, p .onward, n .past .onward); within = n .past .within; is = n .past .is ∙ ap pastDigits (p .is) })
 
+-- what a header has
+pub record Headers (t : List ℕ) : Type 0 where
+  pub plain : isPlain t ≡ true
+  pub wide : isField (atWidth t) ≡ true
+  pub high : isField (atHeight t) ≡ true
+  pub sized : size t < 6
+  pub square : field (atHeight t) ≡ field (atWidth t)
+
 -- the ways in which a text has no header, and the way in which it has one
 module _ (t : List ℕ) where
   pub no-plain : isPlain t ≡ false → isHeader t ≡ false
@@ -102,10 +110,14 @@ module _ (t : List ℕ) where
   unfolding isHeader
   all-header p w h s e = both-and _ _ (both-and _ _ (both-and _ _ (both-and _ _ p w) h) (lt-ltb (size t) 6 s)) (eq-eqb _ _ e)
 
-  pub header-size : isHeader t ≡ true → size t < 6
+  pub header-all : isHeader t ≡ true → Headers t
   unfolding isHeader
-  header-size e =
-      ltb-true (size t) 6 (and-both (isPlain t && isField (atWidth t) && isField (atHeight t)) _ (and-both (isPlain t && isField (atWidth t) && isField (atHeight t) && ltb (size t) 6) _ e .0) .1)
+  header-all e =
+      let a = and-both (isPlain t && isField (atWidth t) && isField (atHeight t) && ltb (size t) 6) _ e in
+      let b = and-both (isPlain t && isField (atWidth t) && isField (atHeight t)) _ (a .0) in
+      let c = and-both (isPlain t && isField (atWidth t)) _ (b .0) in
+      let d = and-both (isPlain t) _ (c .0) in
+      record { plain = d .0; wide = d .1; high = c .1; sized = ltb-true _ _ (b .1); square = eqb-true _ _ (a .1) }
 
 -- numbers that are equal when counted to 33, one of them a side, are equal
 pub same-number : (v w : ℕ) → capped v ≡ capped w → w ≤ 32 → v ≡ w
