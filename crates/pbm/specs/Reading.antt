@@ -54,8 +54,8 @@ unfoldable pub sizeFrom : ℕ → ℕ → ℕ → ℕ
 sizeFrom zero n v = n
 sizeFrom (suc more) n v = cond (eqb v (2 ^ n)) n (sizeFrom more (suc n) v)
 
-abbrev pub sizeOf : ℕ → ℕ
-sizeOf v = sizeFrom sizes 0 v
+abbrev pub sizeOfSide : ℕ → ℕ
+sizeOfSide v = sizeFrom sizes 0 v
 
 -- the text begins with `P1`
 unfoldable pub isPlain : List ℕ → Bool
@@ -75,7 +75,7 @@ atCells t = pastBlank (pastField (atHeight t))
 
 -- the size, by the width
 abbrev pub size : List ℕ → ℕ
-size t = sizeOf (field (atWidth t))
+size t = sizeOfSide (field (atWidth t))
 
 -- a header: `P1`, width and height; they are equal, and the side of a size
 unfoldable pub isHeader : List ℕ → Bool

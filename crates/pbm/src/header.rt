@@ -4,7 +4,7 @@ ghost use mathlib.Core.Bool.{true, false};
 ghost use Prim.Native.Nat.{_≤_, _<_, _+_, _*_, _-_};
 ghost use lib.ListN.{length, drop};
 ghost use Rattle.pbm.specs.Bytes.{isDigit};
-ghost use Rattle.pbm.specs.Reading.{pastComment, pastBlanks, blank, pastBlank, sizeOf, isPlain};
+ghost use Rattle.pbm.specs.Reading.{pastComment, pastBlanks, blank, pastBlank, sizeOfSide, isPlain};
 ghost use Rattle.pbm.specs.Steps.{Past, capped, Numbered, Fielded, Headed};
 use super::bytes;
 
@@ -132,7 +132,7 @@ fn field_at(text: &[u8], at: usize) -> Field
 
 // The size of a picture whose side is so long.
 fn size_of(side: u64) -> u64
-    ensures { λ r. ⌜ r ≡ sizeOf side ⌝ }
+    ensures { λ r. ⌜ r ≡ sizeOfSide side ⌝ }
 {
     match side {
         1 => 0,

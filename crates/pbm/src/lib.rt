@@ -12,7 +12,7 @@ use refusal::Refusal;
 
 mod bytes;
 mod header;
-mod squares;
+mod raster;
 
 // The size of the picture that was read, or a refusal.
 pub enum Reading {
@@ -41,12 +41,12 @@ pub fn read(text: &[u8], cells: &mut [u8; 1024]) -> Reading
     let Header::Of(n, at) = found else {
         return unread();
     };
-    if !squares::only_cells(text, at) {
+    if !raster::only_cells(text, at) {
         return unread();
     }
-    if squares::count(text, at) != morton::area(n) {
+    if raster::count(text, at) != morton::area(n) {
         return unread();
     }
-    squares::put(text, at, cells);
+    raster::put(text, at, cells);
     Reading::Size(n)
 }

@@ -13,7 +13,7 @@ use Rattle.refusal.specs.Rules as rule
 use Rattle.refusal.specs.Answer.{Answer, gives, refuses}
 use Rattle.tiling.specs.laws.Tests.{and-both, both-and, or-either}
 use Rattle.pbm.specs.Bytes.{isSpace, endsLine, isDigit, isCell, hash, zeroDigit}
-use Rattle.pbm.specs.Reading.{pastComment, pastBlanks, blank, pastBlank, pastDigits, number, pastField, isField, field, sizeFrom, sizeOf, isPlain, atWidth, atHeight, atCells, size, onlyCells, cells, picture}
+use Rattle.pbm.specs.Reading.{pastComment, pastBlanks, blank, pastBlank, pastDigits, number, pastField, isField, field, sizeFrom, sizeOfSide, isPlain, atWidth, atHeight, atCells, size, onlyCells, cells, picture}
 use Rattle.pbm.specs.Picture.{every, Comment, Blank, Blanks, decimal, Decimal, Header, Cells, IsPicture, Reads, Picture}
 use Rattle.pbm.specs.laws.Text.{comment-past}
 use Rattle.pbm.specs.laws.Header.{all-header}
@@ -107,7 +107,7 @@ cells-read Cells.none = (refl, refl)
 cells-read (Cells.space e r) = rw e (cells-read r)
 cells-read (Cells.cell {b = b} e r) = let q = cells-read r in rw (digit-apart b (cell-digit b e) .0, e) (q .0, ap (λ l. (b - zeroDigit) ∷ l) (q .1))
 
-side-size : (n : ℕ) → n < 6 → sizeOf (2 ^ n) ≡ n
+side-size : (n : ℕ) → n < 6 → sizeOfSide (2 ^ n) ≡ n
 unfolding sizeFrom
 side-size zero h = refl
 side-size (suc zero) h = refl
@@ -144,7 +144,7 @@ module _ (t : List ℕ) (p : Picture) (i : IsPicture t p) where
       rw (width-read .2) (h .0, h .1, ap pastBlank (h .2) ∙ blank-past (header .afterHeight) (i .raster))
 
   size-read : size t ≡ p .ofSize
-  size-read = ap sizeOf (width-read .1) ∙ side-size (p .ofSize) (i .size)
+  size-read = ap sizeOfSide (width-read .1) ∙ side-size (p .ofSize) (i .size)
 
   plain-read : isPlain t ≡ true
   unfolding isPlain

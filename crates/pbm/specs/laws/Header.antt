@@ -10,16 +10,16 @@ use lib.ListN.{length, getD, drop}
 use borrow.Author.Tests.{ne-eqb, eq-eqb, leb-true, lt-ltb, le-ltb, ltb-true, ltb-false, eqb-true}
 use Rattle.tiling.specs.laws.Tests.{and-both, both-and, and-first, and-second}
 use Rattle.pbm.specs.Bytes.{isDigit}
-use Rattle.pbm.specs.Reading.{pastBlanks, pastDigits, number, pastField, isField, field, sizeFrom, sizeOf, isPlain, atWidth, atHeight, size, isHeader}
+use Rattle.pbm.specs.Reading.{pastBlanks, pastDigits, number, pastField, isField, field, sizeFrom, sizeOfSide, isPlain, atWidth, atHeight, size, isHeader}
 use Rattle.pbm.specs.Steps.{Past, capped, Numbered}
 use Rattle.pbm.specs.declared.header.Number.{Number}
 
 -- no side is above 32
-pub large-side : (v : ℕ) → 32 < v → sizeOf v ≡ 6
+pub large-side : (v : ℕ) → 32 < v → sizeOfSide v ≡ 6
 unfolding sizeFrom
 large-side v h = rw (ne-eqb v 1 (λ e. omega arith), ne-eqb v 2 (λ e. omega arith), ne-eqb v 4 (λ e. omega arith), ne-eqb v 8 (λ e. omega arith), ne-eqb v 16 (λ e. omega arith), ne-eqb v 32 (λ e. omega arith))
 
-pub no-side : (v : ℕ) → (v ≡ 1 → ⊥) → (v ≡ 2 → ⊥) → (v ≡ 4 → ⊥) → (v ≡ 8 → ⊥) → (v ≡ 16 → ⊥) → (v ≡ 32 → ⊥) → sizeOf v ≡ 6
+pub no-side : (v : ℕ) → (v ≡ 1 → ⊥) → (v ≡ 2 → ⊥) → (v ≡ 4 → ⊥) → (v ≡ 8 → ⊥) → (v ≡ 16 → ⊥) → (v ≡ 32 → ⊥) → sizeOfSide v ≡ 6
 unfolding sizeFrom
 no-side v a b c d e f = rw (ne-eqb v 1 a, ne-eqb v 2 b, ne-eqb v 4 c, ne-eqb v 8 d, ne-eqb v 16 e, ne-eqb v 32 f)
 
@@ -57,14 +57,14 @@ size-from (suc more) n v = go (eqb v (2 ^ n)) (size-from more (suc n) v)
     go false h = omega arith
 
 -- the size of a number that is counted to 33 only is the number's own
-pub size-capped : (v : ℕ) → sizeOf (capped v) ≡ sizeOf v
+pub size-capped : (v : ℕ) → sizeOfSide (capped v) ≡ sizeOfSide v
 size-capped v = go (ltb 32 v) refl
   where
-    go : (x : Bool) → ltb 32 v ≡ x → sizeOf (capped v) ≡ sizeOf v
+    go : (x : Bool) → ltb 32 v ≡ x → sizeOfSide (capped v) ≡ sizeOfSide v
     go true e = let h = ltb-true 32 v e in large-side (capped v) (omega arith) ∙ sym (large-side v h)
-    go false e = let h = ltb-false 32 v e in let q : capped v ≡ v = omega arith in ap sizeOf q
+    go false e = let h = ltb-false 32 v e in let q : capped v ≡ v = omega arith in ap sizeOfSide q
 
-pub has-size : (v : ℕ) → (sizeOf v ≡ 6 → ⊥) → (sizeOf v < 6) × (v ≤ 32)
+pub has-size : (v : ℕ) → (sizeOfSide v ≡ 6 → ⊥) → (sizeOfSide v < 6) × (v ≤ 32)
 has-size v h = (omega (arith, size-from 6 0 v, h), go (ltb 32 v) refl)
   where
     go : (x : Bool) → ltb 32 v ≡ x → v ≤ 32

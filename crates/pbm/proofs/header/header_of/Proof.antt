@@ -8,7 +8,7 @@ use borrow.Author.Tests.{not-true, not-false}
 use borrow.Author.Needs.{needs}
 use Rattle.pbm.proofs.header.header_of.Tie as tie
 use Rattle.pbm.proofs.header.header_of.Statement.{statement}
-use Rattle.pbm.specs.Reading.{blank, isField, field, pastField, atWidth, atHeight, size, sizeOf, pastBlank}
+use Rattle.pbm.specs.Reading.{blank, isField, field, pastField, atWidth, atHeight, size, sizeOfSide, pastBlank}
 use Rattle.pbm.specs.Steps.{Past, capped, Fielded}
 use Rattle.pbm.specs.declared.header.Field.the-variants.{Of}
 use Rattle.pbm.specs.laws.Header.{plain-two, no-plain, no-width, no-height, no-size, no-square, all-header, size-capped, has-size, same-number}
@@ -65,7 +65,7 @@ size-of-requires c κs = search needs
 sized : (c : tie.After-size-of) → c .size-of .result ≡ size (c .before .before .before .before .before .before .before .before .before .before .before .before .args .text .now)
 sized c =
     let w = wide (c .before .before .before .before .before) in
-    c .size-of .ensures ∙ ap sizeOf (w .1) ∙ size-capped _
+    c .size-of .ensures ∙ ap sizeOfSide (w .1) ∙ size-capped _
 
 returns-4 : tie.Need-returns-4
 returns-4 c = no-size _ (sym (sized (c .before)) ∙ c .if2 .taken)

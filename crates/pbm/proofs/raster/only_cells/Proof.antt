@@ -1,4 +1,4 @@
--- `pbm::squares::only_cells` meets its contract. The loop keeps: whether only cells follow is whether only cells follow from i on.
+-- `pbm::raster::only_cells` meets its contract. The loop keeps: whether only cells follow is whether only cells follow from i on.
 use mathlib.Core.Bool.{_||_}
 use mathlib.Core.Path.{ap₂}
 use mathlib.Core.Path.{_≡_, refl, sym, _∙_}
@@ -7,8 +7,8 @@ use native.Mathlib.Omega.{arith}
 use lib.ListN.{length, drop}
 use borrow.Author.Tests.{not-true, not-false}
 use borrow.Author.Needs.{needs}
-use Rattle.pbm.proofs.squares.only_cells.Statement.{statement}
-use Rattle.pbm.proofs.squares.only_cells.Tie as tie
+use Rattle.pbm.proofs.raster.only_cells.Statement.{statement}
+use Rattle.pbm.proofs.raster.only_cells.Tie as tie
 use Rattle.pbm.specs.Reading.{onlyCells}
 use Rattle.pbm.specs.laws.Text.{only-end, only-more, only-none}
 

@@ -1,4 +1,4 @@
--- `pbm::squares::put` meets its contract. The loop keeps: with the cells from i on stored from k on, the memory is as it is to be.
+-- `pbm::raster::put` meets its contract. The loop keeps: with the cells from i on stored from k on, the memory is as it is to be.
 use mathlib.Core.Logic.{⊎-elim}
 use mathlib.Core.Bool.{true}
 use mathlib.Core.Path.{_≡_, refl, sym, ap, _∙_}
@@ -10,8 +10,8 @@ use lib.Seq.{sets}
 use lib.ListN.{length-set}
 use borrow.Author.Tests.{not-true, not-false}
 use borrow.Author.Needs.{needs}
-use Rattle.pbm.proofs.squares.put.Statement.{statement}
-use Rattle.pbm.proofs.squares.put.Tie as tie
+use Rattle.pbm.proofs.raster.put.Statement.{statement}
+use Rattle.pbm.proofs.raster.put.Tie as tie
 use Rattle.pbm.specs.Reading.{cells, onlyCells}
 use Rattle.pbm.specs.laws.Text.{cells-end, cells-space, cells-more, only-rest, cell-here}
 

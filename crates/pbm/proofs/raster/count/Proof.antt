@@ -1,4 +1,4 @@
--- `pbm::squares::count` meets its contract. The loop keeps: the cells counted and those from i on are all.
+-- `pbm::raster::count` meets its contract. The loop keeps: the cells counted and those from i on are all.
 use mathlib.Core.Logic.{⊎-elim}
 use mathlib.Core.Path.{_≡_, sym, ap, _∙_}
 use Prim.Native.Nat.{_+_, _-_, _≤_}
@@ -6,8 +6,8 @@ use native.Mathlib.Omega.{arith}
 use lib.ListN.{length, drop}
 use borrow.Author.Tests.{not-true, not-false}
 use borrow.Author.Needs.{needs}
-use Rattle.pbm.proofs.squares.count.Statement.{statement}
-use Rattle.pbm.proofs.squares.count.Tie as tie
+use Rattle.pbm.proofs.raster.count.Statement.{statement}
+use Rattle.pbm.proofs.raster.count.Tie as tie
 use Rattle.pbm.specs.Reading.{cells}
 use Rattle.pbm.specs.laws.Text.{cells-end, cells-space, cells-more}
 
