@@ -10,7 +10,7 @@ use crate::{list, random, texts};
 /// How much of a line a report shows, in bytes.
 const SHOWN: usize = 80;
 
-/// How many texts a command passed and failed.
+/// How many comparisons passed and failed.
 #[derive(Default)]
 pub struct Tally {
     pub passed: usize,
@@ -23,7 +23,8 @@ impl Tally {
         self.passed > 0 && self.failed == 0
     }
 
-    fn count(&mut self, ok: bool) {
+    /// Counts one comparison.
+    pub fn count(&mut self, ok: bool) {
         if ok {
             self.passed += 1;
         } else {
