@@ -11,7 +11,6 @@ use Rattle.refusal.specs.Answer.{Answer, gives, refuses}
 use Rattle.morton.specs.Code.{rowOf, columnOf}
 use Rattle.tiling.specs.Map.{limit, inside, colourIn}
 use Rattle.tiling.specs.WellFormed.{WellFormed, FirstWrong}
-use Rattle.shortest.specs.Shortest.{ShowsPicture}
 use Rattle.shortest.specs.Demand.{IsShortest}
 use Rattle.shortest.specs.Outcome.{Outcome}
 use Rattle.rasters.specs.Raster.{pixel}
@@ -102,12 +101,3 @@ pub data Windows (n : ℕ) (a : List ℕ) (w : Window) (space : ℕ) : Outcome �
       → IsShortest (byCode (windowCell n a w)) (w .size) l → space < length l → Windows n a w space (refuses rule.noRoom (length l))
   right : {l : List ℕ} → n ≤ limit → w .size ≤ limit → far (w .wy) ≡ false → far (w .wx) ≡ false → WellFormed n a
       → IsShortest (byCode (windowCell n a w)) (w .size) l → length l ≤ space → Windows n a w space (gives l)
-
--- k is the length of the shortest list of a picture: one well formed list that shows it has that length, and none is shorter; none fits
-pub record NoRoom (f : ℕ → ℕ) (n space k : ℕ) : Type 0 where
-  pub list : List ℕ
-  pub formed : WellFormed n list
-  pub shows : ShowsPicture f n list
-  pub long : length list ≡ k
-  pub none-shorter : (other : List ℕ) → WellFormed n other → ShowsPicture f n other → k ≤ length other
-  pub none-fits : (other : List ℕ) → WellFormed n other → ShowsPicture f n other → space < length other

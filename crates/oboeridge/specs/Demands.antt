@@ -19,21 +19,23 @@ use Rattle.place.specs.declared.Place.the-variants.{OnGround}
 use Rattle.place.specs.declared.Placed.{Placed}
 use Rattle.place.specs.declared.Shift.{Shift}
 use Rattle.shortest.specs.Shortest.{shortest, ShowsPicture}
-use Rattle.shortest.specs.Demand.{IsShortest}
+use Rattle.shortest.specs.Demand.{IsShortest, NoRoom}
 use Rattle.shortest.specs.Outcome.{Outcome, fitting, left}
+use Rattle.shortest.specs.laws.Promises.{only, refused-keeps, given-keeps}
 use Rattle.rasters.specs.Raster.{pixel}
 use Rattle.oboeridge.specs.Answers.{counted, looked, near}
 use Rattle.oboeridge.specs.Lists.{listCheck, cellLookup}
 use Rattle.oboeridge.specs.Neighbour.{neighbour}
 use Rattle.oboeridge.specs.Rasters.{rasterToList, listToRaster}
-use Rattle.oboeridge.specs.Allowed.{Checks, Looks, Nears, Lists, Rasters, Overlays, Windows, NoRoom}
+use Rattle.oboeridge.specs.Allowed.{Checks, Looks, Nears, Lists, Rasters, Overlays, Windows}
 use Rattle.oboeridge.specs.Overlay.{windowOf, windowCell, overlayCell, byCode, overlaid, windowed}
-use Rattle.oboeridge.specs.laws.Promises.{overlay-refused, window-refused, list-refused, list-shown, raster-shown, only, refused-keeps, given-keeps}
+use Rattle.oboeridge.specs.laws.Promises.{overlay-refused, window-refused, list-refused, list-shown, raster-shown}
 use Rattle.refusal.specs.Rules as rule
 use Rattle.oboeridge.specs.laws.Overlays.{overlaid-allowed, allowed-overlaid, windows, from-windows, shown, overlay-list, window-list}
 use Rattle.oboeridge.specs.declared.overlays.Window.{Window}
 use Rattle.oboeridge.specs.declared.overlays.Frame.{Frame}
 use Rattle.painter.specs.declared.operations.Operation.{Operation}
+use Rattle.place.specs.laws.OneAnswer as place
 use Rattle.oboeridge.specs.laws.OneAnswer as one
 use Rattle.oboeridge.specs.laws.Exactly.{checks, from-checks, looks-up, from-looks, nears-by, from-nears}
 use Rattle.oboeridge.specs.laws.Cells.{lists, from-lists, rasters, from-rasters, list-back, raster-back, raster-same}
@@ -53,7 +55,7 @@ pub one-near : (a : Answer ℕ) (r s : Near) → near r ≡ a → near s ≡ a �
 one-near = one.one-near
 
 pub one-placed : (a : Answer Shift) (r s : Placed) → answered r ≡ a → answered s ≡ a → r ≡ s
-one-placed = one.one-placed
+one-placed = place.one-placed
 
 -- Each answer is given exactly when it is allowed. Demand 1: a refusal names the right number.
 pub check-exactly : (n : ℕ) (l : List ℕ) (a : Answer ℕ) → (listCheck n l ≡ a) ↔ Checks n l a

@@ -3,3 +3,4 @@ pub mod Integers
 pub mod Readings
 pub mod Meaning
 pub mod Exactly
+pub mod OneAnswer

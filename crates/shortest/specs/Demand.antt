@@ -15,6 +15,15 @@ pub record IsShortest (f : ℕ → ℕ) (n : ℕ) (l : List ℕ) : Type 0 where
   pub shows : ShowsPicture f n l
   pub least : (other : List ℕ) → WellFormed n other → ShowsPicture f n other → length l ≤ length other
 
+-- k is the length of the shortest list of a picture: one well formed list that shows it has that length, and none is shorter; none fits
+pub record NoRoom (f : ℕ → ℕ) (n space k : ℕ) : Type 0 where
+  pub list : List ℕ
+  pub formed : WellFormed n list
+  pub shows : ShowsPicture f n list
+  pub long : length list ≡ k
+  pub none-shorter : (other : List ℕ) → WellFormed n other → ShowsPicture f n other → k ≤ length other
+  pub none-fits : (other : List ℕ) → WellFormed n other → ShowsPicture f n other → space < length other
+
 module _ (f : ℕ → ℕ) (n : ℕ) where
   -- no well formed list that shows the picture is shorter than the rule's
   pub shortest-least : (l : List ℕ) → WellFormed n l → ShowsPicture f n l → length (shortest f n 0) ≤ length l

@@ -8,3 +8,5 @@ pub mod Written
 pub mod Quarters
 pub mod Outcome
 pub mod Only
+pub mod Shown
+pub mod Promises

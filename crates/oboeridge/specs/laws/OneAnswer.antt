@@ -2,10 +2,6 @@
 use mathlib.Core.Path.{_≡_, refl, sym, ap, _∙_}
 use Prim.Native.Nat.{ℕ}
 use Rattle.refusal.specs.Answer.{Answer, gives, refuses}
-use Rattle.place.specs.Answer.{answered}
-use Rattle.place.specs.declared.Placed.{Placed}
-use Rattle.place.specs.declared.Placed.the-variants as places
-use Rattle.place.specs.declared.Shift.{Shift}
 use Rattle.oboeridge.specs.Answers.{counted, looked, near}
 use Rattle.oboeridge.specs.declared.answers.Counted.{Counted}
 use Rattle.oboeridge.specs.declared.answers.Counted.the-variants as counts
@@ -49,15 +45,3 @@ near-back (nears.Refused r) = refl
 
 pub one-near : (a : Answer ℕ) (r s : Near) → near r ≡ a → near s ≡ a → r ≡ s
 one-near a r s p q = sym (near-back r) ∙ ap asNear (p ∙ sym q) ∙ near-back s
-
-asPlaced : Answer Shift → Placed
-asPlaced (gives s) = places.At s
-asPlaced (refuses r k) = places.Refused (record { rule = r; number = k })
-
-placed-back : (r : Placed) → asPlaced (answered r) ≡ r
-unfolding asPlaced
-placed-back (places.At s) = refl
-placed-back (places.Refused r) = refl
-
-pub one-placed : (a : Answer Shift) (r s : Placed) → answered r ≡ a → answered s ≡ a → r ≡ s
-one-placed a r s p q = sym (placed-back r) ∙ ap asPlaced (p ∙ sym q) ∙ placed-back s

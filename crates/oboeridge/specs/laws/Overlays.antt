@@ -6,15 +6,12 @@ use Prim.Native.Nat.{ℕ, _^_, _<_, _≤_}
 use native.Mathlib.Omega.{arith}
 use lib.Dec.{ltb}
 use lib.IntN.{pos}
-use lib.Pow.{pow-mono}
 use lib.ListN.{length}
 use borrow.Author.Tests.{lt-ltb, le-ltb, ltb-true, ltb-false}
 use Rattle.refusal.specs.Rules as rule
 use Rattle.refusal.specs.Answer.{gives, refuses}
 use Rattle.tiling.specs.Leaf.{colours}
-use Rattle.morton.specs.Code.{code}
 use Rattle.morton.specs.laws.Cell.{cell-of-code}
-use Rattle.morton.specs.laws.Code.{code-inside}
 use Rattle.tiling.specs.Map.{limit, colourIn}
 use Rattle.tiling.specs.Check.{checked}
 use Rattle.tiling.specs.WellFormed.{WellFormed}
@@ -27,6 +24,7 @@ use Rattle.shortest.specs.Demand.{IsShortest, shortest-is}
 use Rattle.shortest.specs.Outcome.{Outcome, fitting}
 use Rattle.shortest.specs.laws.Outcome.{fitting-gives, fitting-refuses}
 use Rattle.shortest.specs.laws.Only.{only-shortest}
+use Rattle.shortest.specs.laws.Shown.{shown-at, cell-bits}
 use Rattle.place.specs.Placing.{far}
 use Rattle.place.specs.declared.Shift.{Shift}
 use Rattle.painter.specs.declared.operations.Operation.{Operation}
@@ -175,13 +173,6 @@ module _ (n : ℕ) (a : List ℕ) (w : Window) (space : ℕ) where
       go false e false f false g false h Tiles k = window-room (ltb-false _ _ e) (ltb-false _ _ f) g h (tiles-formed n a k)
 
 -- ---- the cells of a list that shows a picture
-pub shown-at : (f : ℕ → ℕ) (n : ℕ) (l : List ℕ) → n ≤ limit → IsShortest f n l → (y x : ℕ) → y < 2 ^ n → x < 2 ^ n → colourIn n l (pos y) (pos x) ≡ f (code y x)
-unfolding colourIn
-shown-at f n l low i y x hy hx = rw (lt-ltb y (2 ^ n) hy, lt-ltb x (2 ^ n) hx) (i .shows (code y x) (code-inside n y x (omega arith) hy hx))
-
-pub cell-bits : (n y : ℕ) → n ≤ limit → y < 2 ^ n → y < 2 ^ 16
-cell-bits n y low h = let q : 2 ^ n ≤ 2 ^ 12 = pow-mono low in omega arith
-
 pub shown : (g : ℕ → ℕ → ℕ) (n : ℕ) (l : List ℕ) → n ≤ limit → IsShortest (byCode g) n l → (y x : ℕ) → y < 2 ^ n → x < 2 ^ n → colourIn n l (pos y) (pos x) ≡ g y x
 shown g n l low i y x hy hx =
     let c = cell-of-code y x (cell-bits n y low hy) (cell-bits n x low hx) in

@@ -1,19 +1,18 @@
--- What follows from an outcome's being allowed: of no room, of the only shortest list, of the memory.
-use mathlib.Core.Path.{_≡_, refl, sym, ap, _∙_, subst}
-use mathlib.Core.List.{List, [], _∷_, _++_}
+-- What follows from an outcome's being allowed: of no room, of a raster's list.
+use mathlib.Core.Path.{_≡_, refl, _∙_, subst}
+use mathlib.Core.List.{List}
 use Prim.Native.Nat.{ℕ, _+_, _*_, _^_, _<_, _≤_}
 use native.Mathlib.Omega.{arith}
 use lib.IntN.{pos}
-use lib.ListN.{length, drop, getD}
+use lib.ListN.{getD}
 use Rattle.refusal.specs.Rules as rule
 use Rattle.refusal.specs.Answer.{gives, refuses}
 use Rattle.tiling.specs.Leaf.{colours}
 use Rattle.tiling.specs.Map.{limit, colourIn}
-use Rattle.tiling.specs.WellFormed.{WellFormed}
-use Rattle.shortest.specs.Shortest.{ShowsPicture}
-use Rattle.shortest.specs.Demand.{IsShortest}
-use Rattle.shortest.specs.Outcome.{Outcome, left}
-use Rattle.shortest.specs.laws.Only.{only-shortest}
+use Rattle.shortest.specs.Demand.{IsShortest, NoRoom}
+use Rattle.shortest.specs.Outcome.{Outcome}
+use Rattle.shortest.specs.laws.Shown.{shown-at, cell-bits}
+use Rattle.shortest.specs.laws.Promises.{no-room, Told}
 use Rattle.place.specs.declared.Shift.{Shift}
 use Rattle.painter.specs.declared.operations.Operation.{Operation}
 use Rattle.oboeridge.specs.Overlay.{windowOf, windowCell, overlayCell, byCode, overlaid, windowed}
@@ -21,26 +20,12 @@ use Rattle.rasters.specs.Raster.{pixel}
 use Rattle.rasters.specs.laws.Pixel.{pixel-at}
 use Rattle.oboeridge.specs.Rasters.{rasterToList}
 use Rattle.oboeridge.specs.laws.Cells.{lists}
-use Rattle.oboeridge.specs.Allowed.{Lists, Overlays, Windows, NoRoom}
-use Rattle.oboeridge.specs.laws.Overlays.{overlaid-allowed, windows, shown-at, cell-bits}
+use Rattle.oboeridge.specs.Allowed.{Lists, Overlays, Windows}
+use Rattle.oboeridge.specs.laws.Overlays.{overlaid-allowed, windows}
 use Rattle.oboeridge.specs.declared.overlays.Window.{Window}
 use Rattle.oboeridge.specs.declared.overlays.Frame.{Frame}
 
 -- ---- no room
-no-room : (f : ℕ → ℕ) (n space : ℕ) (l : List ℕ) → IsShortest f n l → space < length l → NoRoom f n space (length l)
-no-room f n space l i h = record {
-  list = l;
-  formed = i .formed;
-  shows = i .shows;
-  long = refl;
-  none-shorter = i .least;
-  none-fits = λ other g s. omega (arith, i .least other g s);
-}
-
-abbrev Told : (ℕ → ℕ) → ℕ → ℕ → Outcome → Type 0
-Told f n space (gives l) = Unit {0}
-Told f n space (refuses r k) = r ≡ rule.noRoom → NoRoom f n space k
-
 overlay-told : (o : Operation) (n : ℕ) (a : List ℕ) (m : ℕ) (b : List ℕ) (s : Shift) (w : Window) (space : ℕ) (x : Outcome)
     → Overlays o n a m b s w space x → Told (byCode (overlayCell o n a m b s w)) (w .size) space x
 overlay-told o n a m b s w space x (Overlays.first-size h) = λ e. absurd (omega arith)
@@ -101,20 +86,3 @@ module _ (n : ℕ) (cells : List ℕ) (space : ℕ) (coloured : (j : ℕ) → pi
 pub raster-shown : (n : ℕ) (cells l : List ℕ) → n ≤ limit → IsShortest (pixel n cells) n l
     → (y x : ℕ) → y < 2 ^ n → x < 2 ^ n → colourIn n l (pos y) (pos x) ≡ getD cells (y * 2 ^ n + x) 0
 raster-shown n cells l low i y x hy hx = shown-at (pixel n cells) n l low i y x hy hx ∙ pixel-at n cells y x (cell-bits n y low hy) (cell-bits n x low hx)
-
--- ---- a shortest list is the only one of its length
-pub only : (f : ℕ → ℕ) (n : ℕ) (l : List ℕ) → n ≤ limit → ((k : ℕ) → f k < colours) → IsShortest f n l → (other : List ℕ) → WellFormed n other → ShowsPicture f n other → length other ≤ length l → other ≡ l
-only f n l low coloured i other g s h =
-    only-shortest f n (omega arith) coloured other (record { formed = g; shows = s; least = λ o p q. omega (arith, i .least o p q) })
-    ∙ sym (only-shortest f n (omega arith) coloured l i)
-
--- ---- the memory lent
-drop-past : (l old : List ℕ) → drop (length l) (l ++ old) ≡ old
-drop-past [] old = refl
-drop-past (w ∷ ws) old = drop-past ws old
-
-pub refused-keeps : (x : Outcome) (r k : ℕ) (old : List ℕ) → x ≡ refuses r k → left x old ≡ old
-refused-keeps x r k old e = ap (λ (y : Outcome). left y old) e
-
-pub given-keeps : (x : Outcome) (l old : List ℕ) → x ≡ gives l → drop (length l) (left x old) ≡ drop (length l) old
-given-keeps x l old e = ap (λ (y : Outcome). drop (length l) (left y old)) e ∙ drop-past l (drop (length l) old)
