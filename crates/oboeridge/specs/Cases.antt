@@ -10,14 +10,14 @@ use Rattle.tiling.specs.Check.{checkedFrom}
 use Rattle.shortest.specs.Shortest.{shortest, uniform, all}
 use Rattle.shortest.specs.Outcome.{Outcome, written}
 use Rattle.rasters.specs.Raster.{pixel, places, rasterOf}
-use Rattle.oboeridge.specs.Rasters.{rasterToList, listToRaster}
-use Rattle.oboeridge.specs.Lists.{listCheck, cellLookup}
-use Rattle.oboeridge.specs.Neighbour.{neighbour}
-use Rattle.oboeridge.specs.Overlay.{overlaid, windowed}
-use Rattle.oboeridge.specs.declared.overlays.Frame.the-variants.{OfFirst}
+use Rattle.conversions.specs.Rasters.{rasterToList, listToRaster}
+use Rattle.lookups.specs.Lists.{listCheck, cellLookup}
+use Rattle.lookups.specs.Neighbour.{neighbour}
+use Rattle.overlays.specs.Overlay.{overlaid, windowed}
+use Rattle.overlays.specs.declared.Frame.the-variants.{OfFirst}
 use Rattle.painter.specs.declared.operations.Operation.{Operation}
 use Rattle.painter.specs.declared.operations.Operation.the-variants.{Intersection, Union, Difference}
-use Rattle.oboeridge.specs.declared.neighbours.Direction.the-variants.{North, NorthEast, East, South, SouthWest, NorthWest}
+use Rattle.lookups.specs.declared.neighbours.Direction.the-variants.{North, NorthEast, East, South, SouthWest, NorthWest}
 
 -- the picture P, of size 2
 abbrev P : List ℕ

@@ -21,28 +21,31 @@ use Rattle.place.specs.declared.Shift.{Shift}
 use Rattle.shortest.specs.Shortest.{shortest, ShowsPicture}
 use Rattle.shortest.specs.Demand.{IsShortest, NoRoom}
 use Rattle.shortest.specs.Outcome.{Outcome, fitting, left}
-use Rattle.shortest.specs.laws.Promises.{only, refused-keeps, given-keeps}
 use Rattle.rasters.specs.Raster.{pixel}
-use Rattle.oboeridge.specs.Answers.{counted, looked, near}
-use Rattle.oboeridge.specs.Lists.{listCheck, cellLookup}
-use Rattle.oboeridge.specs.Neighbour.{neighbour}
-use Rattle.oboeridge.specs.Rasters.{rasterToList, listToRaster}
-use Rattle.oboeridge.specs.Allowed.{Checks, Looks, Nears, Lists, Rasters, Overlays, Windows}
-use Rattle.oboeridge.specs.Overlay.{windowOf, windowCell, overlayCell, byCode, overlaid, windowed}
-use Rattle.oboeridge.specs.laws.Promises.{overlay-refused, window-refused, list-refused, list-shown, raster-shown}
+use Rattle.answers.specs.Answers.{counted, looked, near}
+use Rattle.lookups.specs.Lists.{listCheck, cellLookup}
+use Rattle.lookups.specs.Neighbour.{neighbour}
+use Rattle.conversions.specs.Rasters.{rasterToList, listToRaster}
+use Rattle.lookups.specs.Allowed.{Checks, Looks, Nears}
+use Rattle.conversions.specs.Allowed.{Lists, Rasters}
+use Rattle.overlays.specs.Allowed.{Overlays, Windows}
+use Rattle.overlays.specs.Overlay.{windowOf, windowCell, overlayCell, byCode, overlaid, windowed}
+use Rattle.shortest.specs.laws.Promises.{only, refused-keeps, given-keeps}
+use Rattle.conversions.specs.laws.Promises.{list-refused, list-shown, raster-shown}
+use Rattle.overlays.specs.laws.Promises.{overlay-refused, window-refused}
 use Rattle.refusal.specs.Rules as rule
-use Rattle.oboeridge.specs.laws.Overlays.{overlaid-allowed, allowed-overlaid, windows, from-windows, shown, overlay-list, window-list}
-use Rattle.oboeridge.specs.declared.overlays.Window.{Window}
-use Rattle.oboeridge.specs.declared.overlays.Frame.{Frame}
+use Rattle.overlays.specs.laws.Overlays.{overlaid-allowed, allowed-overlaid, windows, from-windows, shown, overlay-list, window-list}
+use Rattle.overlays.specs.declared.Window.{Window}
+use Rattle.overlays.specs.declared.Frame.{Frame}
 use Rattle.painter.specs.declared.operations.Operation.{Operation}
+use Rattle.answers.specs.laws.OneAnswer as one
 use Rattle.place.specs.laws.OneAnswer as place
-use Rattle.oboeridge.specs.laws.OneAnswer as one
-use Rattle.oboeridge.specs.laws.Exactly.{checks, from-checks, looks-up, from-looks, nears-by, from-nears}
-use Rattle.oboeridge.specs.laws.Cells.{lists, from-lists, rasters, from-rasters, list-back, raster-back, raster-same}
-use Rattle.oboeridge.specs.declared.neighbours.Direction.{Direction}
-use Rattle.oboeridge.specs.declared.answers.Counted.{Counted}
-use Rattle.oboeridge.specs.declared.answers.Looked.{Looked}
-use Rattle.oboeridge.specs.declared.answers.Near.{Near}
+use Rattle.lookups.specs.laws.Exactly.{checks, from-checks, looks-up, from-looks, nears-by, from-nears}
+use Rattle.conversions.specs.laws.Cells.{lists, from-lists, rasters, from-rasters, list-back, raster-back, raster-same}
+use Rattle.lookups.specs.declared.neighbours.Direction.{Direction}
+use Rattle.answers.specs.declared.Counted.{Counted}
+use Rattle.answers.specs.declared.Looked.{Looked}
+use Rattle.answers.specs.declared.Near.{Near}
 
 -- Two results that a call's contract allows are equal. The contracts are the two hypotheses, with the call's definition for a.
 pub one-counted : (a : Answer ℕ) (r s : Counted) → counted r ≡ a → counted s ≡ a → r ≡ s

@@ -1,10 +1,2 @@
-pub mod Answers
-pub mod Lists
-pub mod Neighbour
-pub mod Rasters
-pub mod Overlay
-pub mod Scenes
-pub mod Allowed
 pub mod Demands
 pub mod Cases
-pub mod laws

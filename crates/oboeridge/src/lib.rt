@@ -1,23 +1,18 @@
 // Oboeridge: calls on maps that are linear quadtrees, each proved for every input.
 //
 // A call judges its own input and requires nothing. It answers what it gives, or a refusal with the paper's No. and number.
-// What each call answers is defined in specs/, one file a call; placing stands in the crate `place`.
-mod answers;
-mod cells;
-mod lists;
-mod neighbours;
-mod overlays;
-
+// The calls stand in the crates `lookups`, `place`, `overlays` and `conversions`, each with the definition of what it answers;
+// what they promise stands here, in specs/Demands.antt.
 pub use answers::Counted;
 pub use answers::Looked;
 pub use answers::Near;
-pub use cells::to_list;
-pub use cells::to_raster;
-pub use lists::Cell;
-pub use lists::check;
-pub use lists::lookup;
-pub use neighbours::Direction;
-pub use neighbours::neighbour;
+pub use conversions::to_list;
+pub use conversions::to_raster;
+pub use lookups::Cell;
+pub use lookups::Direction;
+pub use lookups::check;
+pub use lookups::lookup;
+pub use lookups::neighbour;
 pub use overlays::Frame;
 pub use overlays::Window;
 pub use overlays::overlay;

@@ -1,0 +1,3 @@
+pub mod Rasters
+pub mod Allowed
+pub mod laws

@@ -1,0 +1,4 @@
+pub mod Overlay
+pub mod Scenes
+pub mod Allowed
+pub mod laws

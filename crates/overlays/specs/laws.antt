@@ -1,0 +1,5 @@
+pub mod Checks
+pub mod Scenes
+pub mod Windows
+pub mod Overlays
+pub mod Promises
