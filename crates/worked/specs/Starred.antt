@@ -18,10 +18,10 @@ use Rattle.place.specs.declared.Place.the-variants.{OnGround}
 use Rattle.place.specs.declared.Shift.{Shift}
 use Rattle.painter.specs.declared.operations.Operation.{Operation}
 use Rattle.painter.specs.declared.operations.Operation.the-variants.{Intersection, Union, Difference}
-use Rattle.oboeridge.specs.Rasters.{rasterToList}
-use Rattle.oboeridge.specs.Lists.{listCheck}
-use Rattle.oboeridge.specs.Overlay.{overlaid, windowed}
-use Rattle.oboeridge.specs.declared.overlays.Frame.the-variants.{OfFirst}
+use Rattle.conversions.specs.Rasters.{rasterToList}
+use Rattle.lookups.specs.Lists.{listCheck}
+use Rattle.overlays.specs.Overlay.{overlaid, windowed}
+use Rattle.overlays.specs.declared.Frame.the-variants.{OfFirst}
 
 -- what a row holds
 pub data Result : Type 0 where
