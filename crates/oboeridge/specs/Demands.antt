@@ -32,9 +32,9 @@ use Rattle.overlays.specs.Allowed.{Overlays, Windows}
 use Rattle.overlays.specs.Overlay.{windowOf, windowCell, overlayCell, byCode, overlaid, windowed}
 use Rattle.shortest.specs.laws.Promises.{only, refused-keeps, given-keeps}
 use Rattle.conversions.specs.laws.Promises.{list-refused, list-shown, raster-shown}
-use Rattle.overlays.specs.laws.Promises.{overlay-refused, window-refused}
+use Rattle.overlays.specs.laws.Promises.{overlay-refused, window-refused, overlay-list, window-list}
 use Rattle.refusal.specs.Rules as rule
-use Rattle.overlays.specs.laws.Overlays.{overlaid-allowed, allowed-overlaid, windows, from-windows, shown, overlay-list, window-list}
+use Rattle.overlays.specs.laws.Overlays.{overlaid-allowed, allowed-overlaid, windows, from-windows, shown}
 use Rattle.overlays.specs.declared.Window.{Window}
 use Rattle.overlays.specs.declared.Frame.{Frame}
 use Rattle.painter.specs.declared.operations.Operation.{Operation}

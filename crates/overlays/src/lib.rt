@@ -13,6 +13,7 @@ ghost use Rattle.probe.specs.Biased.{biased};
 ghost use Rattle.painter.specs.Scene.{picture};
 ghost use Rattle.painter.specs.Painting.{Paints};
 ghost use Rattle.answers.specs.Answers.{counted};
+ghost use Rattle.place.specs.Placing.{farthestOffset};
 ghost use Rattle.overlays.specs.Overlay.{sizes, offsets, lists, judged, windowOf, overlaid, windowed};
 ghost use Rattle.overlays.specs.Scenes.{unless, sceneOf};
 ghost use Rattle.overlays.specs.laws.Checks.{Near};
@@ -136,7 +137,7 @@ fn judge(n: u64, first: &[u64], m: u64, second: &[u64], shift: Shift, window: Wi
 
 // The row or the column of the window's first cell in the second map, biased.
 fn origin(w: i64, d: i64) -> u64
-    requires { ⌜ (natAbs w ≤ 65536) × (natAbs d ≤ 65536) ⌝ }
+    requires { ⌜ (natAbs w ≤ farthestOffset) × (natAbs d ≤ farthestOffset) ⌝ }
     ensures { λ r. ⌜ r ≡ biased (w -ℤ d) ⌝ }
 {
     probe::biased(w - d)

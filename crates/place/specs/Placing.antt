@@ -76,8 +76,11 @@ same (negsuc a) (pos b) = false
 same (negsuc a) (negsuc b) = eqb a b
 
 -- outside -65,536 .. 65,536
+abbrev pub farthestOffset : ℕ
+farthestOffset = 65536
+
 abbrev pub far : ℤ → Bool
-far z = ltb 65536 (natAbs z)
+far z = ltb farthestOffset (natAbs z)
 
 -- 2: an offset is too far
 unfoldable pub offsets : ℤ → ℤ → Answer Shift

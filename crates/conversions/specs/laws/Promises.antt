@@ -23,24 +23,14 @@ list-told : (n : ℕ) (cells : List ℕ) (space : ℕ) (x : Outcome) → Lists n
 list-told n cells space x (Lists.size h) = λ e. absurd (omega arith)
 list-told n cells space x (Lists.raster p h) = λ e. absurd (omega arith)
 list-told n cells space x (Lists.room {l = l} p q i h) = λ e. no-room (pixel n cells) n space l i h
-list-told n cells space x (Lists.right p q i h) = tt
-
-abbrev Listed : ℕ → List ℕ → Outcome → Type 0
-Listed n cells (gives l) = (n ≤ limit) × IsShortest (pixel n cells) n l
-Listed n cells (refuses r k) = Unit {0}
-
-list-given : (n : ℕ) (cells : List ℕ) (space : ℕ) (x : Outcome) → Lists n cells space x → Listed n cells x
-list-given n cells space x (Lists.size h) = tt
-list-given n cells space x (Lists.raster p h) = tt
-list-given n cells space x (Lists.room p q i h) = tt
-list-given n cells space x (Lists.right p q i h) = (p, i)
+list-told n cells space x (Lists.right p q i h) = (p, i)
 
 module _ (n : ℕ) (cells : List ℕ) (space : ℕ) (coloured : (j : ℕ) → pixel n cells j < colours) where
   pub list-refused : (k : ℕ) → rasterToList n cells space ≡ refuses rule.noRoom k → NoRoom (pixel n cells) n space k
   list-refused k e = subst (Told (pixel n cells) n space) e (list-told n cells space _ (lists n cells space coloured)) refl
 
   pub list-shown : (l : List ℕ) → rasterToList n cells space ≡ gives l → (n ≤ limit) × IsShortest (pixel n cells) n l
-  list-shown l e = subst (Listed n cells) e (list-given n cells space _ (lists n cells space coloured))
+  list-shown l e = subst (Told (pixel n cells) n space) e (list-told n cells space _ (lists n cells space coloured))
 
 -- the cells of a list that shows a raster
 pub raster-shown : (n : ℕ) (cells l : List ℕ) → n ≤ limit → IsShortest (pixel n cells) n l

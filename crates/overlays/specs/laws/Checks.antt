@@ -15,7 +15,7 @@ use Rattle.tiling.specs.Check.{checked}
 use Rattle.tiling.specs.declared.Checked.{Checked}
 use Rattle.tiling.specs.declared.Checked.the-variants.{Tiles, Wrong}
 use Rattle.shortest.specs.Outcome.{Outcome}
-use Rattle.place.specs.Placing.{far}
+use Rattle.place.specs.Placing.{far, farthestOffset}
 use Rattle.answers.specs.Judged.{refuseWrong}
 use Rattle.place.specs.declared.Shift.{Shift}
 use Rattle.overlays.specs.Overlay.{sizes, offsets, lists, judged}
@@ -78,10 +78,10 @@ sizes-pass n m w y h = go (ltb limit n) refl (ltb limit m) refl (ltb limit w) re
     go false e false f false g z = (ltb-false _ _ e, ltb-false _ _ f, ltb-false _ _ g, z)
 
 pub record Near (dy dx wy wx : ℤ) : Type 0 where
-  pub dy-near : natAbs dy ≤ 65536
-  pub dx-near : natAbs dx ≤ 65536
-  pub wy-near : natAbs wy ≤ 65536
-  pub wx-near : natAbs wx ≤ 65536
+  pub dy-near : natAbs dy ≤ farthestOffset
+  pub dx-near : natAbs dx ≤ farthestOffset
+  pub wy-near : natAbs wy ≤ farthestOffset
+  pub wx-near : natAbs wx ≤ farthestOffset
 
 pub offsets-pass : (dy dx wy wx : ℤ) (y : Outcome) → gives [] ≡ offsets dy dx wy wx y → Near dy dx wy wx × (gives [] ≡ y)
 offsets-pass dy dx wy wx y h = go (far dy) refl (far dx) refl (far wy) refl (far wx) refl h

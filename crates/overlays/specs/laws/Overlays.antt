@@ -177,39 +177,3 @@ pub shown : (g : ℕ → ℕ → ℕ) (n : ℕ) (l : List ℕ) → n ≤ limit �
 shown g n l low i y x hy hx =
     let c = cell-of-code y x (cell-bits n y low hy) (cell-bits n x low hx) in
     shown-at (byCode g) n l low i y x hy hx ∙ ap₂ g (c .0) (c .1)
-
--- what an outcome that is given says of its list
-abbrev Given : (ℕ → ℕ → ℕ) → ℕ → Outcome → Type 0
-Given g n (gives l) = (n ≤ limit) × IsShortest (byCode g) n l
-Given g n (refuses r k) = Unit {0}
-
-overlay-given : (o : Operation) (n : ℕ) (a : List ℕ) (m : ℕ) (b : List ℕ) (s : Shift) (w : Window) (space : ℕ) (x : Outcome)
-    → Overlays o n a m b s w space x → Given (overlayCell o n a m b s w) (w .size) x
-overlay-given o n a m b s w space x (Overlays.first-size h) = tt
-overlay-given o n a m b s w space x (Overlays.second-size p h) = tt
-overlay-given o n a m b s w space x (Overlays.window-size p q h) = tt
-overlay-given o n a m b s w space x (Overlays.dy-far z h) = tt
-overlay-given o n a m b s w space x (Overlays.dx-far z p h) = tt
-overlay-given o n a m b s w space x (Overlays.wy-far z p q h) = tt
-overlay-given o n a m b s w space x (Overlays.wx-far z p q r h) = tt
-overlay-given o n a m b s w space x (Overlays.first-list z y h) = tt
-overlay-given o n a m b s w space x (Overlays.second-list z y f h) = tt
-overlay-given o n a m b s w space x (Overlays.room z y f g i h) = tt
-overlay-given o n a m b s w space x (Overlays.right z y f g i h) = (z .window, i)
-
-window-given : (n : ℕ) (a : List ℕ) (w : Window) (space : ℕ) (x : Outcome) → Windows n a w space x → Given (windowCell n a w) (w .size) x
-window-given n a w space x (Windows.size h) = tt
-window-given n a w space x (Windows.window-size p h) = tt
-window-given n a w space x (Windows.wy-far p q h) = tt
-window-given n a w space x (Windows.wx-far p q r h) = tt
-window-given n a w space x (Windows.list p q r t h) = tt
-window-given n a w space x (Windows.room p q r t f i h) = tt
-window-given n a w space x (Windows.right p q r t f i h) = (q, i)
-
-pub overlay-list : (o : Operation) (n : ℕ) (a : List ℕ) (m : ℕ) (b : List ℕ) (s : Shift) (f : Frame) (space : ℕ) (l : List ℕ)
-    → overlaid o n a m b s f space ≡ gives l → (windowOf n f .size ≤ limit) × IsShortest (byCode (overlayCell o n a m b s (windowOf n f))) (windowOf n f .size) l
-overlay-list o n a m b s f space l e =
-    subst (Given (overlayCell o n a m b s (windowOf n f)) (windowOf n f .size)) e (overlay-given o n a m b s (windowOf n f) space _ (overlaid-allowed o n a m b s f space))
-
-pub window-list : (n : ℕ) (a : List ℕ) (w : Window) (space : ℕ) (l : List ℕ) → windowed n a w space ≡ gives l → (w .size ≤ limit) × IsShortest (byCode (windowCell n a w)) (w .size) l
-window-list n a w space l e = subst (Given (windowCell n a w) (w .size)) e (window-given n a w space _ (windows n a w space))

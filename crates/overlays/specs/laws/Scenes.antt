@@ -20,6 +20,7 @@ use Rattle.tiling.specs.WellFormed.{WellFormed}
 use Rattle.tiling.specs.laws.Signed.{back, small-fits, abs-sum, abs-neg}
 use Rattle.probe.specs.Biased.{reach, biased, cellAbout}
 use Rattle.probe.specs.laws.Biased.{near, near-step, colour-biased, biased-step, biased-lt}
+use Rattle.place.specs.Placing.{farthestOffset}
 use Rattle.place.specs.declared.Shift.{Shift}
 use Rattle.painter.specs.Operation.{combine}
 use Rattle.painter.specs.Scene.{cellOf, picture}
@@ -35,16 +36,16 @@ use Rattle.overlays.specs.declared.Verdict.the-variants.{Fine, Bad}
 use Rattle.overlays.specs.declared.Window.{Window}
 
 -- ---- numbers that are near, as the code holds them
-pub near-back : (z : ℤ) → natAbs z ≤ 65536 → toZ w64 (ofZ w64 z) ≡ z
+pub near-back : (z : ℤ) → natAbs z ≤ farthestOffset → toZ w64 (ofZ w64 z) ≡ z
 near-back z h = back (small-fits z (omega arith))
 
-pub apart : (w d : ℤ) → natAbs w ≤ 65536 → natAbs d ≤ 65536 → natAbs (w -ℤ d) ≤ reach
+pub apart : (w d : ℤ) → natAbs w ≤ farthestOffset → natAbs d ≤ farthestOffset → natAbs (w -ℤ d) ≤ reach
 apart w d hw hd = omega (arith, abs-sum w (negℤ d), abs-neg d)
 
-pub apart-fits : (w d : ℤ) → natAbs w ≤ 65536 → natAbs d ≤ 65536 → SFits w64 (w -ℤ d)
+pub apart-fits : (w d : ℤ) → natAbs w ≤ farthestOffset → natAbs d ≤ farthestOffset → SFits w64 (w -ℤ d)
 apart-fits w d hw hd = small-fits (w -ℤ d) (omega (arith, apart w d hw hd))
 
-pub apart-held : (w d : ℤ) → natAbs w ≤ 65536 → natAbs d ≤ 65536 → toZ w64 (ofZ w64 (toZ w64 (ofZ w64 w) -ℤ toZ w64 (ofZ w64 d))) ≡ w -ℤ d
+pub apart-held : (w d : ℤ) → natAbs w ≤ farthestOffset → natAbs d ≤ farthestOffset → toZ w64 (ofZ w64 (toZ w64 (ofZ w64 w) -ℤ toZ w64 (ofZ w64 d))) ≡ w -ℤ d
 apart-held w d hw hd = ap₂ (λ (a b : ℤ). toZ w64 (ofZ w64 (a -ℤ b))) (near-back w hw) (near-back d hd) ∙ back (apart-fits w d hw hd)
 
 pub scene-is : (o : Operation) (n m : ℕ) (s : Shift) (w : Window) (p q r t : ℕ) → p ≡ biased (w .wy) → q ≡ biased (w .wx) → r ≡ biased (w .wy -ℤ s .dy) → t ≡ biased (w .wx -ℤ s .dx)

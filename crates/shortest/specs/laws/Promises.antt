@@ -25,8 +25,9 @@ no-room f n space l i h = record {
   none-fits = λ other g s. omega (arith, i .least other g s);
 }
 
+-- what an outcome tells: of a list, that it is the shortest; of no room, that there is none
 abbrev pub Told : (ℕ → ℕ) → ℕ → ℕ → Outcome → Type 0
-Told f n space (gives l) = Unit {0}
+Told f n space (gives l) = (n ≤ limit) × IsShortest f n l
 Told f n space (refuses r k) = r ≡ rule.noRoom → NoRoom f n space k
 
 -- ---- a shortest list is the only one of its length
