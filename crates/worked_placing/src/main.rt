@@ -46,6 +46,21 @@ fn from_origin(what: &[u8], north: f64, east: f64) {
     placing(what, Place::OnGround(first, second));
 }
 
+// The first map at a north, its cells of a side; the second at the origin, its cells of side a half.
+fn halves(what: &[u8], north: f64, cell: f64) {
+    let first = Ground {
+        north,
+        east: 0.0,
+        cell,
+    };
+    let second = Ground {
+        north: 0.0,
+        east: 0.0,
+        cell: 0.5,
+    };
+    placing(what, Place::OnGround(first, second));
+}
+
 fn corners() {
     against(b"30 south and 20 east in cells of 10", 970.0, 520.0, 10.0);
     against(b"30 north and 20 west", 1030.0, 480.0, 10.0);
@@ -65,6 +80,8 @@ fn sides() {
     against(b"cells of 0", 970.0, 520.0, 0.0);
     against(b"cells of minus 0", 970.0, 520.0, -0.0);
     against(b"cells of minus 10", 970.0, 520.0, -10.0);
+    halves(b"a half for a north, in cells of a half", 0.5, 0.5);
+    halves(b"a 2000th for a cell", 0.5, 0.0005);
 }
 
 fn limits() {
