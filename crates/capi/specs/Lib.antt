@@ -1,3 +1,4 @@
 pub mod Code
-pub mod Small
+pub mod Below
+pub mod Demands
 pub mod laws

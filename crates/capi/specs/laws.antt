@@ -1,3 +1,3 @@
-pub mod Small
+pub mod Below
 pub mod Names
 pub mod Pairs

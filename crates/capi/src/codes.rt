@@ -3,7 +3,7 @@ ghost use mathlib.Core.Path.{_≡_};
 ghost use Prim.Native.Nat.{_+_, _*_, _^_, _<_, _≤_};
 ghost use Rattle.answers.specs.Answers.{counted, looked, near};
 ghost use Rattle.capi.specs.Code.{coded};
-ghost use Rattle.capi.specs.Small.{Small};
+ghost use Rattle.capi.specs.Below.{Below, itself};
 use oboeridge::Counted;
 use oboeridge::Looked;
 use oboeridge::Near;
@@ -14,14 +14,14 @@ pub const UNNAMED: u64 = 18446744073709551615;
 
 // rule × 2^32 + number.
 pub fn refused(r: Refusal) -> u64
-    requires { ⌜ (r .rule ≤ 12) × (r .number < 2 ^ 63) ⌝ }
+    requires { ⌜ (r .rule ≤ 12) × (r .number < 2 ^ 32) ⌝ }
     ensures { λ x. ⌜ x ≡ r .rule * 2 ^ 32 + r .number ⌝ }
 {
     r.rule * 4294967296 + r.number
 }
 
 pub fn count(r: Counted) -> u64
-    requires { ⌜ Small (counted r) ⌝ }
+    requires { ⌜ Below itself (counted r) ⌝ }
     ensures { λ x. ⌜ x ≡ coded (counted r) ⌝ }
 {
     match r {
@@ -31,7 +31,7 @@ pub fn count(r: Counted) -> u64
 }
 
 pub fn colour(r: Looked) -> u64
-    requires { ⌜ Small (looked r) ⌝ }
+    requires { ⌜ Below itself (looked r) ⌝ }
     ensures { λ x. ⌜ x ≡ coded (looked r) ⌝ }
 {
     match r {
@@ -41,7 +41,7 @@ pub fn colour(r: Looked) -> u64
 }
 
 pub fn code(r: Near) -> u64
-    requires { ⌜ Small (near r) ⌝ }
+    requires { ⌜ Below itself (near r) ⌝ }
     ensures { λ x. ⌜ x ≡ coded (near r) ⌝ }
 {
     match r {

@@ -1,17 +1,16 @@
 -- `capi::oboe_check` meets its contract: the answer of the public call, as one number.
 use mathlib.Core.Path.{ap, _∙_}
-use native.Mathlib.Omega.{arith}
 use borrow.Author.Needs.{needs}
 use Rattle.capi.proofs.oboe_check.Statement.{statement}
 use Rattle.capi.proofs.oboe_check.Tie as tie
-use Rattle.capi.specs.laws.Small.{check-small}
+use Rattle.capi.specs.laws.Below.{check-below}
 use Rattle.capi.specs.Code.{coded}
 
 check-requires : tie.Need-check-requires
 check-requires c κs = search needs
 
 count-requires : tie.Need-count-requires
-count-requires c κs = rw (c .check .ensures) (check-small _ _ (omega (arith, c .before .before .good)))
+count-requires c κs = rw (c .check .ensures) (check-below _ _)
 
 returns : tie.Need-returns
 returns c = c .count .ensures ∙ ap coded (c .before .check .ensures)

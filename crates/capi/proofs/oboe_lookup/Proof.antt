@@ -1,19 +1,18 @@
 -- `capi::oboe_lookup` meets its contract: the answer of the public call, as one number.
 use mathlib.Core.Path.{ap, ap₂, _∙_}
-use native.Mathlib.Omega.{arith}
 use borrow.Author.Needs.{needs}
 use Rattle.capi.proofs.oboe_lookup.Tie as tie
 use Rattle.capi.proofs.oboe_lookup.Statement.{statement}
 use Rattle.tiling.specs.laws.Signed.{back}
 use Rattle.lookups.specs.Lists.{cellLookup}
-use Rattle.capi.specs.laws.Small.{lookup-small}
+use Rattle.capi.specs.laws.Below.{lookup-below}
 use Rattle.capi.specs.Code.{coded}
 
 lookup-requires : tie.Need-lookup-requires
 lookup-requires c κs = search needs
 
 colour-requires : tie.Need-colour-requires
-colour-requires c κs = let a = c .before .before .args in rw (c .lookup .ensures) (lookup-small (a .n) (a .list .now) _ _ (omega (arith, c .before .before .good)))
+colour-requires c κs = let a = c .before .before .args in rw (c .lookup .ensures) (lookup-below (a .n) (a .list .now) _ _)
 
 returns : tie.Need-returns
 returns c =

@@ -4,7 +4,7 @@ use borrow.Author.Needs.{needs}
 use Rattle.capi.proofs.oboe_neighbour.Tie as tie
 use Rattle.capi.proofs.oboe_neighbour.Statement.{statement}
 use Rattle.capi.specs.Code.{coded}
-use Rattle.capi.specs.laws.Small.{neighbour-small}
+use Rattle.capi.specs.laws.Below.{neighbour-below}
 
 direction-of-requires : tie.Need-direction-of-requires
 direction-of-requires c κs = search needs
@@ -22,7 +22,7 @@ neighbour-requires : tie.Need-neighbour-requires
 neighbour-requires c κs = search needs
 
 code-requires : tie.Need-code-requires
-code-requires c κs = rw (c .neighbour .ensures) (neighbour-small _ _ _ _)
+code-requires c κs = rw (c .neighbour .ensures) (neighbour-below _ _ _ _)
 
 returns-2 : tie.Need-returns-2
 returns-2 c =

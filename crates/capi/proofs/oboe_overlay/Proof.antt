@@ -1,14 +1,13 @@
 -- `capi::oboe_overlay` meets its contract: the answer of the public call under the operation that the number names, over
 -- the window that is named, as one number.
 use mathlib.Core.Path.{_≡_, sym, ap, ap₂, _∙_}
-use native.Mathlib.Omega.{arith}
 use lib.ListN.{length}
 use borrow.Author.Needs.{needs}
 use Rattle.capi.proofs.oboe_overlay.Statement.{statement}
 use Rattle.capi.proofs.oboe_overlay.Tie as tie
 use Rattle.place.specs.declared.Shift.{Shift}
 use Rattle.overlays.specs.Overlay.{overlaid}
-use Rattle.capi.specs.laws.Small.{overlay-small, small-written}
+use Rattle.capi.specs.laws.Below.{overlay-below, below-written}
 use Rattle.overlays.specs.declared.Frame.the-variants.{At}
 use Rattle.tiling.specs.laws.Signed.{back}
 use Rattle.shortest.specs.Outcome.{written, left}
@@ -35,8 +34,8 @@ count-requires c κs =
     let a = c .before .before .before .before .before .before .before .before .before .before .before .args in
     let o = c .before .before .before .before .before .named .given .0 .0 in
     rw (c .before .before .overlay .ensures .0)
-    (small-written (overlaid o (a .n) (a .first .now) (a .m) (a .second .now) _ _ (length (a .out .now)))
-    (overlay-small o (a .n) (a .first .now) (a .m) (a .second .now) _ _ (length (a .out .now)) (omega (arith, c .before .before .before .before .before .before .before .before .before .before .before .good)) (omega (arith, c .before .before .before .before .before .before .before .before .before .before .before .good))))
+    (below-written (overlaid o (a .n) (a .first .now) (a .m) (a .second .now) _ _ (length (a .out .now)))
+    (overlay-below o (a .n) (a .first .now) (a .m) (a .second .now) _ _ (length (a .out .now))))
 
 same-length : tie.Need-same-length
 same-length c = search needs

@@ -4,7 +4,7 @@ use lib.ListN.{length}
 use borrow.Author.Needs.{needs}
 use Rattle.capi.proofs.oboe_to_list.Statement.{statement}
 use Rattle.capi.proofs.oboe_to_list.Tie as tie
-use Rattle.capi.specs.laws.Small.{list-small, small-written}
+use Rattle.capi.specs.laws.Below.{list-below, below-written}
 use Rattle.conversions.specs.Rasters.{rasterToList}
 use Rattle.capi.specs.Code.{coded}
 
@@ -14,7 +14,7 @@ to-list-requires c κs = search needs
 count-requires : tie.Need-count-requires
 count-requires c κs =
     let a = c .before .before .before .before .before .before .args in
-    rw (c .before .before .to-list .ensures .0) (small-written (rasterToList (a .n) (a .cells .now) (length (a .out .now))) (list-small (a .n) (a .cells .now) (length (a .out .now))))
+    rw (c .before .before .to-list .ensures .0) (below-written (rasterToList (a .n) (a .cells .now) (length (a .out .now))) (list-below (a .n) (a .cells .now) (length (a .out .now))))
 
 same-length : tie.Need-same-length
 same-length c = search needs

@@ -1,11 +1,10 @@
 -- `capi::oboe_to_raster` meets its contract: the answer of the public call, as one number.
 use mathlib.Core.Path.{ap, _∙_}
-use native.Mathlib.Omega.{arith}
 use lib.ListN.{length}
 use borrow.Author.Needs.{needs}
 use Rattle.capi.proofs.oboe_to_raster.Tie as tie
 use Rattle.capi.proofs.oboe_to_raster.Statement.{statement}
-use Rattle.capi.specs.laws.Small.{raster-small, small-written}
+use Rattle.capi.specs.laws.Below.{raster-below, below-written}
 use Rattle.conversions.specs.Rasters.{listToRaster}
 use Rattle.capi.specs.Code.{coded}
 
@@ -15,7 +14,7 @@ to-raster-requires c κs = search needs
 count-requires : tie.Need-count-requires
 count-requires c κs =
     let a = c .before .before .before .before .before .before .args in
-    rw (c .before .before .to-raster .ensures .0) (small-written (listToRaster (a .n) (a .list .now) (length (a .cells .now))) (raster-small (a .n) (a .list .now) (length (a .cells .now)) (omega (arith, c .before .before .before .before .before .before .good))))
+    rw (c .before .before .to-raster .ensures .0) (below-written (listToRaster (a .n) (a .list .now) (length (a .cells .now))) (raster-below (a .n) (a .list .now) (length (a .cells .now))))
 
 same-length : tie.Need-same-length
 same-length c = search needs

@@ -1,13 +1,12 @@
 -- `capi::oboe_window` meets its contract: the answer of the public call, as one number.
 use mathlib.Core.Path.{_≡_, ap, ap₂, _∙_}
-use native.Mathlib.Omega.{arith}
 use lib.ListN.{length}
 use borrow.Author.Needs.{needs}
 use Rattle.capi.proofs.oboe_window.Tie as tie
 use Rattle.capi.proofs.oboe_window.Statement.{statement}
 use Rattle.overlays.specs.declared.Window.{Window}
 use Rattle.tiling.specs.laws.Signed.{back}
-use Rattle.capi.specs.laws.Small.{window-small, small-written}
+use Rattle.capi.specs.laws.Below.{window-below, below-written}
 use Rattle.overlays.specs.Overlay.{windowed}
 use Rattle.shortest.specs.Outcome.{written, left}
 use Rattle.capi.specs.Code.{coded}
@@ -18,7 +17,7 @@ window-of-requires c κs = search needs
 count-requires : tie.Need-count-requires
 count-requires c κs =
     let a = c .before .before .before .before .before .before .args in
-    rw (c .before .before .window-of .ensures .0) (small-written (windowed (a .n) (a .list .now) _ (length (a .out .now))) (window-small (a .n) (a .list .now) _ (length (a .out .now)) (omega (arith, c .before .before .before .before .before .before .good))))
+    rw (c .before .before .window-of .ensures .0) (below-written (windowed (a .n) (a .list .now) _ (length (a .out .now))) (window-below (a .n) (a .list .now) _ (length (a .out .now))))
 
 same-length : tie.Need-same-length
 same-length c = search needs

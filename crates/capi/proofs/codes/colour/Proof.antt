@@ -3,7 +3,7 @@ use mathlib.Core.Path.{sym, ap, _∙_, subst}
 use borrow.Author.Needs.{needs}
 use Rattle.capi.proofs.codes.colour.Tie as tie
 use Rattle.capi.proofs.codes.colour.Statement.{statement}
-use Rattle.capi.specs.Small.{Small}
+use Rattle.capi.specs.Below.{Below, itself}
 use Rattle.answers.specs.Answers.{looked}
 use Rattle.capi.specs.Code.{coded}
 
@@ -17,7 +17,7 @@ enum-known-r-2 : tie.Need-enum-known-r-2
 enum-known-r-2 c = search needs
 
 refused-requires : tie.Need-refused-requires
-refused-requires c κs = subst (λ x. Small (looked x)) (c .before .r2 .given .1) (c .before .before .before .pre)
+refused-requires c κs = let b = subst (λ x. Below itself (looked x)) (c .before .r2 .given .1) (c .before .before .before .pre) in (b .1, b .2)
 
 returns : tie.Need-returns
 returns c = search needs

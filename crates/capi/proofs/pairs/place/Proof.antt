@@ -4,9 +4,9 @@ use borrow.Author.Needs.{needs}
 use Rattle.capi.proofs.pairs.place.Tie as tie
 use Rattle.capi.proofs.pairs.place.Statement.{statement}
 use Rattle.tiling.specs.laws.Signed.{held}
-use Rattle.capi.specs.Small.{Small}
+use Rattle.capi.specs.Below.{Below}
 use Rattle.place.specs.Placing.{placed}
-use Rattle.capi.specs.laws.Small.{place-small}
+use Rattle.capi.specs.laws.Below.{nought, place-below}
 use Rattle.place.specs.Answer.{answered}
 use Rattle.capi.specs.laws.Pairs.{pair-short, pair-refused, pair-given}
 
@@ -31,7 +31,8 @@ enum-known-found-2 c = search needs
 refused-requires : tie.Need-refused-requires
 refused-requires c κs =
     let e = sym (c .before .before .before .placing .ensures) ∙ ap answered (c .before .found2 .given .1) in
-    subst Small e (place-small _)
+    let b = subst (Below nought) e (place-below _) in
+    (b .1, b .2)
 
 same-length : tie.Need-same-length
 same-length c = search needs
