@@ -11,6 +11,10 @@ use Rattle.tiling.specs.declared.Checked.the-variants.{Tiles, Wrong}
 abbrev pub rightEntry : ℕ → ℕ → ℕ → Bool
 rightEntry n e w = leb (levelOf w) n && eqb (codeOf w) e && ltb e (4 ^ n) && eqb (e % 4 ^ levelOf w) 0
 
+-- where it ends if it is right; else 0, where no entry ends
+abbrev pub rightEnd : ℕ → ℕ → ℕ → ℕ
+rightEnd n e w = cond (rightEntry n e w) (endOf w) 0
+
 -- the rest of a list, after i entries that are right and end at e
 unfoldable pub checkedFrom : ℕ → ℕ → ℕ → List ℕ → Checked
 checkedFrom n e i [] = cond (eqb e (4 ^ n)) Tiles (Wrong i)

@@ -10,7 +10,7 @@ ghost use Rattle.morton.specs.Code.{code};
 ghost use Rattle.morton.specs.Power.{highest};
 ghost use Rattle.tiling.specs.Leaf.{leaf, codeOf, levelOf, colourOf, endOf};
 ghost use Rattle.tiling.specs.Map.{within, inside};
-ghost use Rattle.tiling.specs.Check.{rightEntry, checked};
+ghost use Rattle.tiling.specs.Check.{rightEnd, checked};
 
 // The largest size of a map.
 pub const LIMIT: u64 = 12;
@@ -55,16 +55,26 @@ pub fn end_of(w: u64) -> u64
     code_of(w) + morton::area(level_of(w))
 }
 
-// Whether the entry w is right in a map of size n, after entries that end at `end`.
-fn right_entry(n: u64, end: u64, w: u64) -> bool
-    requires { ⌜ n ≤ highest ⌝ }
-    ensures { λ r. ⌜ r ≡ rightEntry n end w ⌝ }
+// Where the entry w ends, if it is right in a map of size n and area `whole` after entries that end at `end`; else 0, where none ends.
+fn right_end(n: u64, whole: u64, end: u64, w: u64) -> u64
+    requires { ⌜ (n ≤ highest) × (whole ≡ 4 ^ n) ⌝ }
+    ensures { λ r. ⌜ r ≡ rightEnd n end w ⌝ }
 {
     let level = level_of(w);
     if n < level {
-        return false;
+        return 0;
     }
-    (code_of(w) == end) & (end < morton::area(n)) & (end % morton::area(level) == 0)
+    let area = morton::area(level);
+    if code_of(w) != end {
+        return 0;
+    }
+    if whole <= end {
+        return 0;
+    }
+    if end % area != 0 {
+        return 0;
+    }
+    end + area
 }
 
 // What the check of a list finds.
@@ -80,17 +90,19 @@ pub fn check(n: u64, list: &[u64]) -> Checked
     requires { ⌜ n ≤ highest ⌝ }
     ensures { λ r. ⌜ r ≡ checked n (now (list .entry)) ⌝ }
 {
+    let whole = morton::area(n);
     let mut end: u64 = 0;
     let mut i: usize = 0;
+    // the entries before i are right, and end at `end`
     while i < list.len() {
-        let w = list[i];
-        if !right_entry(n, end, w) {
+        let next = right_end(n, whole, end, list[i]);
+        if next == 0 {
             return Checked::Wrong(i);
         }
-        end = end_of(w);
+        end = next;
         i += 1;
     }
-    if end == morton::area(n) {
+    if end == whole {
         Checked::Tiles
     } else {
         Checked::Wrong(i)

@@ -1,16 +1,15 @@
 -- The check accepts exactly the well formed lists.
-use mathlib.Core.Path.{_≡_, refl, sym, ap, _∙_}
+use mathlib.Core.Path.{_≡_, refl}
 use mathlib.Core.Bool.{Bool, true, false, _&&_, cond}
 use mathlib.Core.List.{List, [], _∷_}
-use Prim.Native.Nat.{ℕ, zero, suc, _+_, _%_, _^_, _<_, _≤_}
+use Prim.Native.Nat.{ℕ, suc, _%_, _^_}
+use native.Mathlib.Nat.{one-le-pow}
 use native.Mathlib.Omega.{arith}
 use lib.Dec.{leb, ltb, eqb}
-use lib.ListN.{length, getD}
-use borrow.Author.Tests.{leb-true, eqb-true, ltb-true, le-leb, eq-eqb, lt-ltb, eqb-false}
+use borrow.Author.Tests.{leb-true, eqb-true, ltb-true, le-leb, eq-eqb, lt-ltb}
 use Rattle.tiling.specs.Leaf.{codeOf, levelOf, endOf}
-use Rattle.tiling.specs.WellFormed.{Right, RightAt, endBefore, WellFormed}
-use Rattle.tiling.specs.Check.{rightEntry, checkedFrom, checked}
-use Rattle.tiling.specs.declared.Checked.{Checked}
+use Rattle.tiling.specs.WellFormed.{Right, WellFormed}
+use Rattle.tiling.specs.Check.{rightEntry, rightEnd, checkedFrom, checked}
 use Rattle.tiling.specs.declared.Checked.the-variants.{Tiles, Wrong}
 use Rattle.tiling.specs.laws.Tests.{and-both, both-and}
 use Rattle.tiling.specs.laws.Run.{Run, run-formed, formed-run}
@@ -28,6 +27,32 @@ right-entry n e w r =
     (both-and (leb (levelOf w) n && eqb (codeOf w) e) (ltb e (4 ^ n))
     (both-and (leb (levelOf w) n) (eqb (codeOf w) e) (le-leb _ _ (r .level)) (eq-eqb _ _ (r .follows))) (lt-ltb _ _ (r .inside)))
     (eq-eqb _ _ (r .aligned))
+
+-- where an entry ends that is right, and that no other ends anywhere
+pub is-right : (n e w : ℕ) → Right n e w → endOf w ≡ rightEnd n e w
+is-right n e w r = rw (right-entry n e w r) refl
+
+pub not-right : (n e w : ℕ) → (Right n e w → ⊥) → 0 ≡ rightEnd n e w
+not-right n e w h = go (rightEntry n e w) refl
+  where
+    go : (b : Bool) → rightEntry n e w ≡ b → 0 ≡ cond (rightEntry n e w) (endOf w) 0
+    go true q = absurd (h (entry-right n e w q))
+    go false q = rw q refl
+
+-- where an entry ends tells whether it is right
+pub ends-right : (n e w r : ℕ) → r ≡ rightEnd n e w → (r ≡ 0 → ⊥) → (rightEntry n e w ≡ true) × (r ≡ endOf w)
+ends-right n e w r h k = go (rightEntry n e w) refl h
+  where
+    go : (b : Bool) → rightEntry n e w ≡ b → r ≡ cond b (endOf w) 0 → (rightEntry n e w ≡ true) × (r ≡ endOf w)
+    go true q x = (q, x)
+    go false q x = absurd (k x)
+
+pub ends-wrong : (n e w r : ℕ) → r ≡ rightEnd n e w → r ≡ 0 → rightEntry n e w ≡ false
+ends-wrong n e w r h k = go (rightEntry n e w) refl h
+  where
+    go : (b : Bool) → rightEntry n e w ≡ b → r ≡ cond b (endOf w) 0 → rightEntry n e w ≡ false
+    go true q x = absurd (omega (arith, one-le-pow (levelOf w) 4 (omega arith)))
+    go false q x = q
 
 tiles-run : (n e i : ℕ) (l : List ℕ) → checkedFrom n e i l ≡ Tiles → Run n e l (4 ^ n)
 unfolding checkedFrom

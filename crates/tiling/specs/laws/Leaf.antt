@@ -1,6 +1,6 @@
 -- The word's round trip: its parts are those that it was made of, and it is made of its parts.
-use mathlib.Core.Path.{_≡_, ap, ap₂, _∙_}
-use Prim.Native.Nat.{ℕ, _+_, _*_, _/_, _%_, _^_, _<_}
+use mathlib.Core.Path.{_≡_, ap₂}
+use Prim.Native.Nat.{ℕ, _+_, _^_, _<_}
 use native.Mathlib.Omega.{arith}
 use Rattle.tiling.specs.Leaf.{leaf, codeOf, levelOf, colourOf, endOf}
 

@@ -1,12 +1,12 @@
 -- A well formed list as a run of entries, one right after another: the form that proofs go by, from the list's front.
-use mathlib.Core.Path.{_≡_, refl, sym, ap, _∙_}
+use mathlib.Core.Path.{_≡_, refl, sym, _∙_}
 use mathlib.Core.List.{List, [], _∷_}
-use Prim.Native.Nat.{ℕ, zero, suc, suc-le-suc, _+_, _/_, _%_, _^_, _<_, _≤_}
+use Prim.Native.Nat.{ℕ, zero, suc, suc-le-suc, _^_, _<_, _≤_}
 use native.Mathlib.Nat.{not-suc-le-zero, le-of-suc-le-suc, zero-lt-suc, one-le-pow}
 use native.Mathlib.Omega.{arith}
 use lib.ListN.{length, getD}
-use Rattle.tiling.specs.Leaf.{codeOf, levelOf, endOf}
-use Rattle.tiling.specs.WellFormed.{Right, RightAt, endBefore, WellFormed}
+use Rattle.tiling.specs.Leaf.{codeOf, endOf}
+use Rattle.tiling.specs.WellFormed.{Right, endBefore, WellFormed}
 
 -- the entries run from e to e′, each right after those before it
 abbrev pub Run : ℕ → ℕ → List ℕ → ℕ → Type 0
