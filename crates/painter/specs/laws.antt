@@ -1,3 +1,4 @@
 pub mod Table
 pub mod Settling
 pub mod Blocks
+pub mod Tiles

@@ -1,10 +1,12 @@
 // The operations' table, and what is settled by what is known of the two maps over a block.
 ghost use mathlib.Core.Path.{_≡_};
 ghost use Prim.Native.Nat.{ℕ, _<_};
+ghost use lib.ListN.{length};
 ghost use Rattle.tiling.specs.Leaf.{colours};
 ghost use Rattle.probe.specs.Seen.{one, mixed, seenOf};
 ghost use Rattle.painter.specs.Operation.{combine};
 ghost use Rattle.painter.specs.Known.{Joint};
+ghost use Rattle.painter.specs.Tiled.{Combined};
 use tiling::COLOURS;
 
 pub enum Operation {
@@ -14,7 +16,7 @@ pub enum Operation {
 }
 
 // The colour of a cell, from the first map's and the second's.
-fn combined(operation: Operation, a: u64, b: u64) -> u64
+pub fn combined(operation: Operation, a: u64, b: u64) -> u64
     ensures { λ r. ⌜ r ≡ combine operation a b ⌝ }
 {
     match operation {
@@ -61,4 +63,19 @@ pub fn joint(operation: Operation, a: u64, b: u64) -> u64
         return second_alone(operation, b);
     }
     COLOURS
+}
+
+// Puts the cells of the second map's tile to those of the first map's.
+pub fn combine(operation: Operation, first: &mut [u8], second: &[u8])
+    requires { ⌜ (length (now first) ≡ 256) × (length (now second) ≡ 256) ⌝ }
+    ensures { λ _. ⌜ Combined operation (now (first .entry)) (now (second .entry)) (now (first .exit)) ⌝ }
+{
+    let mut j: usize = 0;
+    // the cells before j are put together
+    while j < 256 {
+        let a = first[j] as u64;
+        let b = second[j] as u64;
+        first[j] = combined(operation, a, b) as u8;
+        j += 1;
+    }
 }

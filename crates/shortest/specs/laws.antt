@@ -6,6 +6,7 @@ pub mod Part
 pub mod Stores
 pub mod Written
 pub mod Quarters
+pub mod Same
 pub mod Outcome
 pub mod Only
 pub mod Shown

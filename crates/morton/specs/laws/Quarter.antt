@@ -2,15 +2,15 @@
 use mathlib.Core.Path.{_≡_, refl, sym, ap, ap₂, _∙_}
 use mathlib.Core.Logic.{_↔_}
 use Prim.Native.Nat.{ℕ, zero, suc, _+_, _*_, _-_, _/_, _%_, _^_, _<_, _≤_}
-use native.Mathlib.Nat.{mod-lt, sub-add-cancel, add-mul-div-right, add-mul-mod-self-right, one-le-pow, pow-succ'}
+use native.Mathlib.Nat.{mod-lt, sub-add-cancel, add-mul-div-right, add-mul-mod-self-right, one-le-pow, pow-succ', pow-le-pow-right, div-add-mod', mod-eq-of-lt}
 use native.Mathlib.Omega.{arith}
-use lib.Pow.{pow-pos}
+use lib.Pow.{pow-pos, pow-mono}
 use lib.Arith.{digits-mod, mod-mul}
-use Rattle.morton.specs.Code.{interleaved, spread, rowOf, columnOf}
-use Rattle.morton.specs.laws.Code.{code-split, code-low, code-injective}
-use Rattle.morton.specs.laws.Cell.{code-of-cell}
+use Rattle.morton.specs.Code.{interleaved, spread, code, rowOf, columnOf}
+use Rattle.morton.specs.laws.Code.{code-split, code-low, code-injective, code-enough}
+use Rattle.morton.specs.laws.Cell.{code-of-cell, cell-inside}
 use Rattle.morton.specs.laws.Spread.{code-spread, spread-mod}
-use Rattle.morton.specs.laws.Square.{within, quotient, square-block, block-square}
+use Rattle.morton.specs.laws.Square.{stays, within, quotient, square-block, block-square}
 
 -- only the lowest L bits count
 code-mod : (L r c : ℕ) → interleaved L (r % 2 ^ L) (c % 2 ^ L) ≡ interleaved L r c
@@ -95,3 +95,28 @@ quarter b L r c i j hr hc hi hj =
     let mc : (c + j * 2 ^ L) % 2 ^ L ≡ 0 = add-mul-mod-self-right c j (2 ^ L) ∙ ac .0 in
     rw (code-split (suc b) L (r + i * 2 ^ L) (c + j * 2 ^ L), code-split (suc b) L r c, code-aligned L (r + i * 2 ^ L) (c + j * 2 ^ L) mr mc, code-aligned L r c (ar .0) (ac .0), add-mul-div-right r i (pow-pos L), add-mul-div-right c j (pow-pos L), even-step b (r / 2 ^ L) (c / 2 ^ L) i j (ar .1) (ac .1) hi hj)
     (omega arith)
+
+-- a cell of an aligned square, by its distance from the square's first cell
+place-mod : (r i s : ℕ) → r % s ≡ 0 → i < s → (r + i) % s ≡ i
+place-mod r i s h l =
+    let e : r + i ≡ i + r / s * s = omega (arith, div-add-mod' r s) in
+    ap (λ (x : ℕ). x % s) e ∙ add-mul-mod-self-right i (r / s) s ∙ mod-eq-of-lt l
+
+-- the cells of the block of level L at an aligned cell, in the order of their codes, lie as those of the block at (0, 0) do
+pub aligned-place : (L r c j : ℕ) → L ≤ 16 → r % 2 ^ L ≡ 0 → c % 2 ^ L ≡ 0 → j < 4 ^ L
+    → code (r + rowOf j) (c + columnOf j) ≡ code r c + j
+aligned-place L r c j h hr hc hj =
+    let s = cell-inside L j h hj in
+    let q : 4 ^ L ≤ 4 ^ 16 = pow-le-pow-right (omega arith) h in
+    let w : 2 ^ L ≤ 2 ^ 16 = pow-mono h in
+    let e : (16 - L) + L ≡ 16 = sub-add-cancel h in
+    let low : interleaved L (r + rowOf j) (c + columnOf j) ≡ j =
+    sym (code-mod L (r + rowOf j) (c + columnOf j))
+    ∙ ap₂ (interleaved L) (place-mod r (rowOf j) (2 ^ L) hr (s .0)) (place-mod c (columnOf j) (2 ^ L) hc (s .1))
+    ∙ code-enough L 16 (rowOf j) (columnOf j) (s .0) (s .1) (omega arith) (omega arith)
+    ∙ code-of-cell j (omega arith) in
+    let high : interleaved (16 - L) ((r + rowOf j) / 2 ^ L) ((c + columnOf j) / 2 ^ L) ≡ interleaved (16 - L) (r / 2 ^ L) (c / 2 ^ L) =
+    ap₂ (interleaved (16 - L)) (stays r (rowOf j) (2 ^ L) (2 ^ L) (omega arith) (s .0)) (stays c (columnOf j) (2 ^ L) (2 ^ L) (omega arith) (s .1)) in
+    let one = rw (low, high, e) at (code-split (16 - L) L (r + rowOf j) (c + columnOf j)) in
+    let two = rw (code-aligned L r c hr hc, e) at (code-split (16 - L) L r c) in
+    omega (arith, one, two)

@@ -1,6 +1,6 @@
 -- A square about a map: wholly beyond it, across its rim, or within it.
-use mathlib.Core.Path.{_≡_, refl, sym, ap, _∙_, subst}
-use mathlib.Core.Bool.{Bool, true, false, _&&_, _||_, and-false}
+use mathlib.Core.Path.{_≡_, refl, sym, _∙_, subst}
+use mathlib.Core.Bool.{Bool, true, false, _||_, and-false}
 use mathlib.Core.Logic.{_⊎_, inl, inr, ⊎-elim}
 use mathlib.Core.List.{List}
 use Prim.Native.Nat.{ℕ, zero, suc, _+_, _-_, _^_, _<_, _≤_}
@@ -72,7 +72,7 @@ four-neither a b c d h =
     (z .0, z .1, y .1, x .1)
 
 -- past the tests: it reaches past where the map begins and begins before the map ends; or it lies within the map
-apart-bounds : (row column s e : ℕ) → beyondb row column s e ≡ false → (bias < row + s) × (bias < column + s) × (row < e) × (column < e)
+pub apart-bounds : (row column s e : ℕ) → beyondb row column s e ≡ false → (bias < row + s) × (bias < column + s) × (row < e) × (column < e)
 apart-bounds row column s e h =
     let o = four-neither _ _ _ _ h in
     (leb-false _ _ (o .0), leb-false _ _ (o .1), leb-false _ _ (o .2), leb-false _ _ (o .3))
@@ -81,6 +81,15 @@ pub inner-bounds : (row column s e : ℕ) → rimb row column s e ≡ false → 
 inner-bounds row column s e h =
     let o = four-neither _ _ _ _ h in
     (ltb-false _ _ (o .0), ltb-false _ _ (o .1), ltb-false _ _ (o .2), ltb-false _ _ (o .3))
+
+-- a cell of a square of the side s that lies within the map
+pub inner-cell : (n : ℕ) (l : List ℕ) (row column s : ℕ) → bias ≤ row → bias ≤ column → row + s ≤ bias + 2 ^ n → column + s ≤ bias + 2 ^ n
+    → (i j : ℕ) → i < s → j < s → cellAbout n l (row + i) (column + j) ≡ cellAt l (row - bias + i) (column - bias + j)
+unfolding cellAbout
+inner-cell n l row column s a b c d i j hi hj =
+    let er : row + i - bias ≡ row - bias + i = omega arith in
+    let ec : column + j - bias ≡ column - bias + j = omega arith in
+    rw (among n row s i a c hi, among n column s j b d hj, er, ec) refl
 
 -- a square of more than one cell
 many : (level : ℕ) → 1 < 2 ^ level → 0 < level
@@ -124,13 +133,7 @@ module _ (n : ℕ) (l : List ℕ) (row column level : ℕ) where
         record { size = h .size; formed = h .formed; rows = omega arith; columns = omega arith }
 
     pub inner-tells : (s : Seen) → Tells (cellAt l) (row - bias) (column - bias) level s → Tells (cellAbout n l) row column level s
-    unfolding cellAbout
     inner-tells (one c) t =
         let b = inner-bounds row column (2 ^ level) (bias + 2 ^ n) inner in
-        record {
-          each = λ i j hi hj.
-              let er : row + i - bias ≡ row - bias + i = omega arith in
-              let ec : column + j - bias ≡ column - bias + j = omega arith in
-              rw (among n row (2 ^ level) i (b .0) (b .2) hi, among n column (2 ^ level) j (b .1) (b .3) hj, er, ec) (t .each i j hi hj);
-        }
+        record { each = λ i j hi hj. inner-cell n l row column (2 ^ level) (b .0) (b .1) (b .2) (b .3) i j hi hj ∙ t .each i j hi hj }
     inner-tells (mixed p) t = t

@@ -1,0 +1,4 @@
+pub mod Store
+pub mod Codes
+pub mod Tiles
+pub mod Listing
