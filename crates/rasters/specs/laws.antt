@@ -1,4 +1,4 @@
 pub mod Pixel
 pub mod Places
-pub mod Runs
+pub mod Blocks
 pub mod RoundTrip

@@ -1,17 +1,16 @@
 -- Where a cell stands in a raster, and the blocks of one.
-use mathlib.Core.Path.{_≡_, refl, sym, ap, ap₂, _∙_, subst}
+use mathlib.Core.Path.{_≡_, refl, sym, ap, ap₂, _∙_}
 use mathlib.Core.List.{List}
 use Prim.Native.Nat.{ℕ, zero, suc, _+_, _*_, _-_, _^_, _≤_, _<_}
 use native.Mathlib.Nat.{pow-succ'}
 use native.Mathlib.Omega.{arith}
 use lib.Arith.{digits-lt}
-use lib.ListN.{length, getD}
+use lib.ListN.{getD}
 use lib.Pow.{pow-pos, pow-mono}
 use mir.Syntax.{w8}
 use mir.Val.{Fits}
 use Rattle.morton.specs.Code.{code, rowOf, columnOf}
-use Rattle.morton.specs.Power.{highest}
-use Rattle.morton.specs.Block.{Block, Quarters}
+use Rattle.morton.specs.Block.{Quarters}
 use Rattle.morton.specs.laws.Cell.{cell-of-code}
 use Rattle.morton.specs.laws.Block.{quarters, whole}
 use Rattle.tiling.specs.Leaf.{colours}

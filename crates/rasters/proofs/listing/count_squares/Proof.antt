@@ -1,8 +1,7 @@
 -- `rasters::count_squares` meets its contract: the four squares of four cells are the quarters of their block.
 use mathlib.Core.Path.{_≡_, refl, sym, ap, _∙_}
-use Prim.Native.Nat.{ℕ, _+_, _*_, _-_, _^_, _<_, _≤_}
+use Prim.Native.Nat.{ℕ, _+_, _*_, _-_, _<_}
 use native.Mathlib.Omega.{arith}
-use borrow.Author.Needs.{needs}
 use Rattle.rasters.proofs.listing.count_squares.Statement.{statement}
 use Rattle.rasters.proofs.listing.count_squares.Tie as tie
 use Rattle.morton.specs.Code.{code}

@@ -1,6 +1,5 @@
 -- `rasters::leaves` meets its contract: the part of the whole square, counted.
 use mathlib.Core.Path.{ap, _∙_}
-use Prim.Native.Nat.{ℕ}
 use borrow.Author.Needs.{needs}
 use Rattle.rasters.proofs.listing.leaves.Statement.{statement}
 use Rattle.rasters.proofs.listing.leaves.Tie as tie

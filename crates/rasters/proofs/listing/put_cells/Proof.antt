@@ -1,11 +1,9 @@
 -- `rasters::put_cells` meets its contract: the four cells write nothing by themselves, and `finish` stores them unless they merge.
 use mathlib.Core.Path.{refl, _∙_}
-use Prim.Native.Nat.{ℕ, _+_, _<_}
 use native.Mathlib.Omega.{arith}
 use borrow.Author.Needs.{needs}
 use Rattle.rasters.proofs.listing.put_cells.Statement.{statement}
 use Rattle.rasters.proofs.listing.put_cells.Tie as tie
-use Rattle.tiling.specs.Leaf.{colours}
 use Rattle.shortest.specs.laws.Quarters.{Ready, ready}
 use Rattle.rasters.specs.Raster.{pixel}
 use Rattle.rasters.specs.laws.Pixel.{Four, four, first-pixel, coloured, cell-wrote}

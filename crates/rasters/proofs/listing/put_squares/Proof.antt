@@ -1,6 +1,6 @@
 -- `rasters::put_squares` meets its contract: each square of four cells is written after those before it, and `finish` makes the block of them.
 use mathlib.Core.Path.{refl, _∙_}
-use Prim.Native.Nat.{ℕ, _+_, _*_, _<_, _≤_, _^_}
+use Prim.Native.Nat.{ℕ, _+_, _<_}
 use native.Mathlib.Omega.{arith}
 use borrow.Author.Needs.{needs}
 use Rattle.rasters.proofs.listing.put_squares.Statement.{statement}

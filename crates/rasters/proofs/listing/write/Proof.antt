@@ -1,10 +1,8 @@
 -- `rasters::write` meets its contract: the whole square is a block, and its leaf is stored if it is of one colour.
-use mathlib.Core.Path.{sym, ap, _∙_}
-use Prim.Native.Nat.{ℕ, _<_}
+use mathlib.Core.Path.{_∙_}
 use borrow.Author.Needs.{needs}
 use Rattle.rasters.proofs.listing.write.Statement.{statement}
 use Rattle.rasters.proofs.listing.write.Tie as tie
-use Rattle.tiling.specs.Leaf.{colours}
 use Rattle.shortest.specs.laws.Outcome.{whole-placed, whole-fills, whole-left, whole-size}
 use Rattle.rasters.specs.Raster.{pixel}
 use Rattle.rasters.specs.laws.Pixel.{whole-counts, coloured}
