@@ -1,6 +1,8 @@
 // The calls for C and for Rust: each is one of the public calls, and answers one number.
 //
 // A refusal is rule × 2^32 + number; what is given is the value alone. The header for C is include/oboeridge.h.
+#![tactic(auto)]
+
 ghost use Rattle.std.specs.Prelude.{◌≡◌, length, cond, ltb};
 ghost use Rattle.shortest.specs.Outcome.{written, left};
 ghost use Rattle.lookups.specs.Lists.{list_check, cell_lookup};

@@ -4,13 +4,13 @@ ghost use Rattle.capi.specs.Code.{operation_of, direction_of};
 
 use oboeridge::{Direction, Operation};
 
-#[derive(Drop)]
+#[derive(Clone, Copy)]
 pub enum Chosen {
     Of(Operation),
     Nothing,
 }
 
-#[derive(Drop)]
+#[derive(Clone, Copy)]
 pub enum Led {
     Of(Direction),
     Nothing,

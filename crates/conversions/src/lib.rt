@@ -1,6 +1,8 @@
 // The calls that convert: a raster to its shortest list, and a list to its raster. A raster is one byte a cell, row by row.
 //
 // Read first: specs/Rasters.antt, and specs/Allowed.antt for when each outcome is allowed; then `to_list`.
+#![tactic(auto)]
+
 ghost use Rattle.std.specs.Prelude.{◌≡◌, length};
 ghost use Rattle.shortest.specs.Outcome.{written, left};
 ghost use Rattle.answers.specs.Answers.{counted};

@@ -1,5 +1,7 @@
 // Reads a plain PBM picture from standard input and prints one line for each leaf of its shortest list: code, level and colour.
 // All that it does is `printing::leaves`.
+#![tactic(auto)]
+
 ghost use Rattle.std.specs.Prelude.{◌≡◌, length};
 
 // Room for the text: one byte more than is ever read tells an input that is too long.

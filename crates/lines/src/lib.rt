@@ -1,4 +1,6 @@
 // The lines that the programs print: what was asked, and what a call answers.
+#![tactic(auto)]
+
 use refusal::Refusal;
 
 pub fn say(text: &[u8]) {

@@ -8,7 +8,7 @@ use refusal::Refusal;
 use tiling::Checked;
 
 // A cell, by its row from the north and its column from the west, which may be negative.
-#[derive(Drop)]
+#[derive(Clone, Copy)]
 pub struct Cell {
     pub row: i64,
     pub column: i64,

@@ -8,7 +8,7 @@ use answers::Near;
 use refusal::Refusal;
 
 // The eight directions, clockwise from north.
-#[derive(Drop)]
+#[derive(Clone, Copy)]
 pub enum Direction {
     North,
     NorthEast,

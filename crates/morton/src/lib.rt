@@ -2,6 +2,8 @@
 // side 2 ^ L whose code is that of its upper left cell.
 //
 // Read first: `code_of`, `row_of` and `column_of`. What they compute is defined in specs/Code.antt.
+#![tactic(auto)]
+
 ghost use Rattle.std.specs.Prelude.{◌≡◌, ◌<◌, ◌≤◌, ◌^◌};
 ghost use Rattle.morton.specs.Code.{spread, code, gathered, row_of, column_of, bits};
 ghost use Rattle.morton.specs.Power.{Power, highest};

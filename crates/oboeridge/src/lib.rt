@@ -3,6 +3,8 @@
 // A call judges its own input and requires nothing. It answers what it gives, or a refusal with the paper's No. and number.
 // The calls stand in the crates `lookups`, `place`, `overlays` and `conversions`, each with the definition of what it answers;
 // what they promise stands here, in specs/Demands.antt.
+#![tactic(auto)]
+
 pub use answers::{Counted, Looked, Near};
 pub use conversions::{to_list, to_raster};
 pub use lookups::{Cell, Direction, check, lookup, neighbour};

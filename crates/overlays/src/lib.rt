@@ -1,6 +1,8 @@
 // Window, intersection, union and difference: the shortest list of what one map, or two, show over a window.
 //
 // Read first: specs/Overlay.antt, and specs/Allowed.antt for when each outcome is allowed; then `judge` and `overlay`.
+#![tactic(auto)]
+
 ghost use Rattle.std.specs.Prelude.{◌≡◌, ◌≤◌, nat_abs, ◌-ℤ◌, length};
 ghost use Rattle.refusal.specs.Answer.{refuses};
 ghost use Rattle.tiling.specs.Map.{limit};
@@ -22,7 +24,7 @@ use refusal::Refusal;
 use tiling::Checked;
 
 // A window: its first cell in the first map's rows and columns, and its size.
-#[derive(Drop)]
+#[derive(Clone, Copy)]
 pub struct Window {
     pub wy: i64,
     pub wx: i64,
@@ -30,14 +32,14 @@ pub struct Window {
 }
 
 // The window of an overlay: the first map's own square, or one that is named.
-#[derive(Drop)]
+#[derive(Clone, Copy)]
 pub enum Frame {
     OfFirst,
     At(Window),
 }
 
 // What the checks have found, which are made in order.
-#[derive(Drop)]
+#[derive(Clone, Copy)]
 pub enum Verdict {
     Fine,
     Bad(Refusal),

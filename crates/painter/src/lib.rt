@@ -4,6 +4,8 @@
 // operation is not settled by what is known already.
 //
 // Read first: specs/Operation.antt and specs/Scene.antt; then `shown`.
+#![tactic(auto)]
+
 mod operations;
 mod painting;
 mod scene;

@@ -8,7 +8,7 @@ ghost use Rattle.painter.specs.Tiled.{Combined};
 
 use tiling::COLOURS;
 
-#[derive(Drop)]
+#[derive(Clone, Copy)]
 pub enum Operation {
     Intersection,
     Union,

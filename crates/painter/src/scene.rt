@@ -8,7 +8,7 @@ ghost use Rattle.painter.specs.Tiled.{Tiled, Tiles, Stepped};
 use super::operations::Operation;
 
 // Two maps of sizes n and m, and where the window's first cell lies in each, at biased rows and columns.
-#[derive(Drop)]
+#[derive(Clone, Copy)]
 pub struct Scene {
     pub operation: Operation,
     pub n: u64,
@@ -20,7 +20,7 @@ pub struct Scene {
 }
 
 // What is known of a block: of the scene, and of each map.
-#[derive(Drop)]
+#[derive(Clone, Copy)]
 pub struct Probe {
     pub all: u64,
     pub a: u64,

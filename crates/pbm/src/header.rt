@@ -7,21 +7,21 @@ ghost use Rattle.pbm.specs.Steps.{Past, capped, Numbered, Fielded, Headed};
 use super::bytes;
 
 // A number, counted to 33, and the position past its digits.
-#[derive(Drop)]
+#[derive(Clone, Copy)]
 pub struct Number {
     value: u64,
     next: usize,
 }
 
 // A field's number, likewise, if there is a field.
-#[derive(Drop)]
+#[derive(Clone, Copy)]
 pub enum Field {
     Of(u64, usize),
     Nothing,
 }
 
 // The size of a picture and the position of its first cell, if there is a header.
-#[derive(Drop)]
+#[derive(Clone, Copy)]
 pub enum Header {
     Of(u64, usize),
     Nothing,

@@ -1,6 +1,8 @@
 // The plain PBM picture: a text to its cells, or a refusal.
 //
 // Read first: specs/Picture.antt, what a picture is; specs/Reading.antt, how it is read; then `read`.
+#![tactic(auto)]
+
 ghost use Rattle.std.specs.Prelude.{◌≡◌};
 ghost use Rattle.refusal.specs.Answer.{refuses};
 ghost use Rattle.refusal.specs.Rules.{picture_text};
@@ -16,7 +18,7 @@ mod header;
 mod raster;
 
 // The size of the picture that was read, or a refusal.
-#[derive(Drop)]
+#[derive(Clone, Copy)]
 pub enum Reading {
     Size(u64),
     Refused(Refusal),

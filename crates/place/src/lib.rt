@@ -1,4 +1,6 @@
 // Placing: where the second map's upper left cell lies, in the first map's rows and columns. Rows grow southward, columns eastward.
+#![tactic(auto)]
+
 ghost use Rattle.std.specs.Prelude.{◌≡◌, ◌≤◌, pos, ◌<ℤ◌, unsigned_abs};
 ghost use Rattle.refusal.specs.Answer.{refuses};
 ghost use Rattle.place.specs.Answer.{answered};
@@ -7,7 +9,7 @@ ghost use Rattle.place.specs.Placing.{reach, in1024ths, cell_side, exact, far, o
 use refusal::Refusal;
 
 // A ground reference: the north and the east of a map's north-west corner, and the side of its cells.
-#[derive(Drop)]
+#[derive(Clone, Copy)]
 pub struct Ground {
     pub north: f64,
     pub east: f64,
@@ -15,34 +17,34 @@ pub struct Ground {
 }
 
 // A place: a row and a column in cells, or the first map's ground reference and the second's.
-#[derive(Drop)]
+#[derive(Clone, Copy)]
 pub enum Place {
     Cells(i64, i64),
     OnGround(Ground, Ground),
 }
 
 // So many rows down and so many columns to the right.
-#[derive(Drop)]
+#[derive(Clone, Copy)]
 pub struct Shift {
     pub dy: i64,
     pub dx: i64,
 }
 
-#[derive(Drop)]
+#[derive(Clone, Copy)]
 pub enum Placed {
     At(Shift),
     Refused(Refusal),
 }
 
 // A whole number, if there is one.
-#[derive(Drop)]
+#[derive(Clone, Copy)]
 pub enum Whole {
     Of(i64),
     Nothing,
 }
 
 // A ground reference's north, east and cell side in 1024ths, or which of the three is the first that is not usable.
-#[derive(Drop)]
+#[derive(Clone, Copy)]
 pub enum Reading {
     Usable(i64, i64, i64),
     Bad(u64),

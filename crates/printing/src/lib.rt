@@ -1,6 +1,8 @@
 // What the program `leaves` prints: the lines of a list, and a picture text to the lines of its shortest list.
 //
 // Read first: specs/Lines.antt; then `leaves`.
+#![tactic(auto)]
+
 ghost use Rattle.std.specs.Prelude.{◌≡◌, ◌++◌, length, drop};
 ghost use Rattle.printing.specs.Lines.{printed};
 

@@ -2,6 +2,8 @@
 //
 // Read first: `find`, which finds the leaf that holds a code, and `ask`, which answers for a square anywhere about a map.
 // Both promise the same whatever hint they are given; a hint only makes them faster.
+#![tactic(auto)]
+
 pub mod search;
 pub mod square;
 

@@ -1,6 +1,8 @@
 // From a raster to its list and back. A raster is one byte a cell, row by row.
 //
 // Read first: specs/Raster.antt; then `write`, which makes the shortest list of a raster, and `fill`, which makes the raster of a list.
+#![tactic(auto)]
+
 
 mod blocks;
 mod listing;

@@ -1,7 +1,9 @@
 // What every call of the library may answer instead of its value: a refusal, by its No. and its number.
 //
 // The constants are the twelve rules. Their conditions and the numbers that go with them stand in specs/Rules.antt.
-#[derive(Drop)]
+#![tactic(auto)]
+
+#[derive(Clone, Copy)]
 pub struct Refusal {
     pub rule: u64,
     pub number: u64,

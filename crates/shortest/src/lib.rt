@@ -6,6 +6,8 @@
 // that the four do not merge: so no word past the final list is ever touched.
 //
 // Read first: specs/Shortest.antt, and specs/Demand.antt for what is proved of it; then `finish`.
+#![tactic(auto)]
+
 ghost use Rattle.std.specs.Prelude.{◌≡◌, ◌+◌, ◌^◌, ◌≤◌};
 ghost use Rattle.morton.specs.Power.{highest};
 ghost use Rattle.shortest.specs.Part.{size_of, merge, joined};

@@ -5,6 +5,8 @@
 // that it touches. The list of a block is then made from its tile, with no search at all.
 //
 // Read first: specs/Tile.antt; then `tile`, which decodes, and `put`, which makes the list.
+#![tactic(auto)]
+
 mod decoding;
 mod listing;
 

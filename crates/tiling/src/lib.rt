@@ -2,6 +2,8 @@
 //
 // Read first: `check`, which judges a list; `leaf`, which makes a word. What they mean is defined in specs/Leaf.antt,
 // specs/WellFormed.antt and specs/Check.antt, and what colour a map has at a cell in specs/Map.antt.
+#![tactic(auto)]
+
 ghost use Rattle.std.specs.Prelude.{◌≡◌, true, ◌<◌, ◌≤◌, ◌^◌, nat_abs};
 ghost use Rattle.morton.specs.Code.{code};
 ghost use Rattle.morton.specs.Power.{highest};
@@ -75,7 +77,7 @@ fn right_end(n: u64, whole: u64, end: u64, w: u64) -> u64
 }
 
 // What the check of a list finds.
-#[derive(Drop)]
+#[derive(Clone, Copy)]
 pub enum Checked {
     // The list is well formed.
     Tiles,

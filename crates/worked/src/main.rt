@@ -1,5 +1,7 @@
 // The worked cases, run: each line says what was asked and what the call answers. The file `stdout` beside this folder holds
 // what the paper says that they answer.
+#![tactic(auto)]
+
 use oboeridge::{Cell, Counted, Direction, Looked, Near};
 
 fn check(what: &[u8], n: u64, list: &[u64]) {

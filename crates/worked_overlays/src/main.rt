@@ -1,4 +1,6 @@
 // The worked cases of overlay and window, run. The file `stdout` beside this folder holds what the paper says that they answer.
+#![tactic(auto)]
+
 use oboeridge::{Counted, Frame, Operation, Shift, Window};
 
 fn answer(r: Counted) {

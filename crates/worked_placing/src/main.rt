@@ -1,4 +1,6 @@
 // The worked cases of placing, run. The file `stdout` beside this folder holds what the paper says that they answer.
+#![tactic(auto)]
+
 use oboeridge::{Ground, Place, Placed, Shift};
 
 fn shifted(s: Shift) {
