@@ -1,0 +1,21 @@
+-- `probe::square::corner` meets its contract: a leaf at least as large as the aligned square of its cell covers it.
+use Rattle.std.proofs.Math.Path.{◌∙◌}
+use Rattle.std.proofs.Common.{sym, leb-true}
+use Rattle.std.proofs.lemmas.Bool.{false≢true}
+use Rattle.probe.specs.Laws.Leaf.{cell_bits, cell_spans, leaf_covers}
+use Rattle.probe.proofs.square.corner.Goals as goal
+
+pub code_of-requires : goal.code_of-requires
+code_of-requires c = let p = c.requires in let k = cell_bits _ _ _ _ p.1 in (k.0, k.1, p.0)
+
+pub find-requires : goal.find-requires
+find-requires c = rw c.code_of.ensures (cell_spans _ _ _ _ c.requires.1)
+
+pub returns-then-colour_of-colour : goal.returns-then-colour_of-colour
+returns-then-colour_of-colour c = λ e. absurd (false≢true e)
+
+pub returns : goal.returns
+returns c =
+    λ e.
+    leaf_covers _ _ _ _ c.requires.1 _ (rw c.code_of.ensures at c.find.ensures) _ _
+    (sym c.colour_of.ensures ∙ c.if-colour_of-colour.false) (rw c.level_of.ensures at (leb-true c.args.level c.level_of.result e))

@@ -1,0 +1,79 @@
+-- `probe::square::look` meets its contract: the square stays within the leaf of its upper left cell; or that leaf is smaller than the
+-- square, which is no single cell; or the corners tell.
+use Rattle.probe.proofs.square.look.Goals.{After-find-at}
+use Rattle.std.proofs.Common.{sym, arith, ◌+◌}
+use Rattle.std.proofs.Math.Nat.{mod-le}
+use Rattle.std.proofs.Math.ListN.{get_or}
+use Rattle.morton.specs.Code.{code}
+use Rattle.tiling.specs.Leaf.{code_of}
+use Rattle.tiling.specs.WellFormed.{Right}
+use Rattle.probe.specs.Search.{Found}
+use Rattle.probe.specs.Laws.Search.{found_right}
+use Rattle.probe.specs.Laws.About.{tells_one, tells_mixed}
+use Rattle.probe.specs.Laws.Leaf.{cell_bits, cell_spans, level_le, first_cell, leaf_covers, leaf_shows, stays_both, leaves_one}
+use Rattle.probe.proofs.square.look.Goals as goal
+
+-- the leaf that was found, and that it is a block of the square
+found : (c : After-find-at) →
+    let a = c.args in
+    Found a.list.now (code a.row a.column) c.find-at.result
+found c = rw c.code_of.ensures at c.find-at.ensures
+
+leaf : (c : After-find-at) →
+    let a = c.args in
+    let w = get_or a.list.now c.find-at.result 0 in
+    Right a.n (code_of w) w
+leaf c = found_right _ _ c.requires.1.formed _ _ (found c)
+
+pub code_of-requires : goal.code_of-requires
+code_of-requires c = let k = cell_bits _ _ _ _ (first_cell _ _ _ _ _ c.requires.1) in (k.0, k.1, c.requires.0)
+
+pub find-at-requires : goal.find-at-requires
+find-at-requires c = rw c.code_of.ensures (cell_spans _ _ _ _ (first_cell _ _ _ _ _ c.requires.1))
+
+pub side-leaf_side-requires : goal.side-leaf_side-requires
+side-leaf_side-requires c = omega (arith, (leaf (goal.at.side-leaf_side-requires c).After-find-at).level, c.level_of-leaf_level.ensures, c.requires.1.size)
+
+pub side-side-requires : goal.side-side-requires
+side-side-requires c = omega (arith, level_le _ _ _ _ _ c.requires.1, c.requires.1.size)
+
+pub overflow_add-row : goal.overflow_add-row
+overflow_add-row c =
+    let a = c.args in
+    omega (arith, mod-le a.row c.side-leaf_side.result, cell_bits _ _ _ _ (first_cell _ _ _ _ _ c.requires.1))
+
+pub overflow_add-column : goal.overflow_add-column
+overflow_add-column c =
+    let a = c.args in
+    omega (arith, mod-le a.column c.side-leaf_side.result, cell_bits _ _ _ _ (first_cell _ _ _ _ _ c.requires.1))
+
+pub returns-then-row-leaf_side : goal.returns-then-row-leaf_side
+returns-then-row-leaf_side c =
+    let a = c.args in
+    let f = stays_both a.row a.column c.side-side.result c.side-leaf_side.result c.if-row-leaf_side.true in
+    let b = c.side-leaf_side.ensures.is in
+    let s = c.side-side.ensures.is in
+    let m = c.level_of-leaf_level.ensures in
+    tells_one _ _ _ _ c.colour_of-colour.result (omega (arith, c.colour_of-colour.ensures))
+    (rw c.colour_of-colour.ensures (leaf_shows _ _ _ _ (first_cell _ _ _ _ _ c.requires.1) _ (found (goal.at.returns-then-row-leaf_side c).After-find-at) _ (rw (b, s, m) at f.0) (rw (b, s, m) at f.1)))
+
+pub returns-then-leaf_level-level : goal.returns-then-leaf_level-level
+returns-then-leaf_level-level c = tells_mixed _ _ _ _ (c.find-at.result + 256) (omega arith) (omega (arith, c.if-leaf_level-level.true))
+
+pub across-requires : goal.across-requires
+across-requires c =
+    let p = c.requires in (
+      p.0,
+      record {
+        within = p.1;
+        first = leaf_covers _ _ _ _ (first_cell _ _ _ _ _ p.1) _ (found (goal.at.across-requires c).After-find-at) _ _ (sym c.colour_of-colour.ensures) (rw c.level_of-leaf_level.ensures at c.if-leaf_level-level.false);
+      },
+    )
+
+pub returns-then-across : goal.returns-then-across
+returns-then-across c = tells_one _ _ _ _ c.colour_of-colour.result (omega (arith, c.colour_of-colour.ensures)) (c.across.ensures c.if-across.true)
+
+pub returns : goal.returns
+returns c =
+    tells_mixed _ _ _ _ (c.find-at.result + 256) (omega arith)
+    (leaves_one _ _ _ _ _ c.side-leaf_side.ensures.low c.side-side.ensures.is c.if-row-leaf_side.false)
