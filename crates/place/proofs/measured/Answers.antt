@@ -14,7 +14,7 @@ returns-then-c1-c2 c =
 
 pub overflow_sub-n1 : goal.overflow_sub-n1
 overflow_sub-n1 c =
-    rw (back c.ranges.n1, back c.ranges.n2) (difference_fits c.args.n1 c.args.n2 c.requires.1.0.0 c.requires.1.1.0)
+    rw (back c.ranges.n1, back c.ranges.n2) (difference_fits c.args.n1 c.args.n2 c.requires.n1_bound.0 c.requires.n2_bound.0)
 
 -- past the test of the cells
 alike : (c : Else-c1-c2) → same c.args.c1 c.args.c2 ≡ true
@@ -22,9 +22,7 @@ alike c = same_yes _ _ (same_bits c.ranges.c1 c.ranges.c2 c.if-c1-c2.false)
 
 -- what the first call says, and the second
 rows : (c : After-times) → c.times.result ≡ exact (c.args.n1 -ℤ c.args.n2) c.args.c1
-rows c =
-    
-    c.times.ensures ∙ ap₂ exact (difference _ _ c.ranges.n1 c.ranges.n2 c.requires.1.0.0 c.requires.1.1.0) (back c.ranges.c1)
+rows c = c.times.ensures ∙ ap₂ exact (difference _ _ c.ranges.n1 c.ranges.n2 c.requires.n1_bound.0 c.requires.n2_bound.0) (back c.ranges.c1)
 
 pub returns-in_default : goal.returns-in_default
 returns-in_default c =
@@ -32,16 +30,14 @@ returns-in_default c =
 
 pub overflow_sub-e2 : goal.overflow_sub-e2
 overflow_sub-e2 c =
-    rw (back c.ranges.e2, back c.ranges.e1) (difference_fits c.args.e2 c.args.e1 c.requires.1.1.1 c.requires.1.0.1)
+    rw (back c.ranges.e2, back c.ranges.e1) (difference_fits c.args.e2 c.args.e1 c.requires.n2_bound.1 c.requires.n1_bound.1)
 
 -- in the arm where the rows are whole
 down : (c : In-Of) → exact (c.args.n1 -ℤ c.args.n2) c.args.c1 ≡ Of c.in-Of.dy
 down c = sym (rows (goal.at.In-Of c).After-times) ∙ c.in-Of.is
 
 columns : (c : After-times-2) → c.times-2.result ≡ exact (c.args.e2 -ℤ c.args.e1) c.args.c1
-columns c =
-    
-    c.times-2.ensures ∙ ap₂ exact (difference _ _ c.ranges.e2 c.ranges.e1 c.requires.1.1.1 c.requires.1.0.1) (back c.ranges.c1)
+columns c = c.times-2.ensures ∙ ap₂ exact (difference _ _ c.ranges.e2 c.ranges.e1 c.requires.n2_bound.1 c.requires.n1_bound.1) (back c.ranges.c1)
 
 pub returns-in_default-times : goal.returns-in_default-times
 returns-in_default-times c =

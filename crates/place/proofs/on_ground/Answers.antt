@@ -32,7 +32,7 @@ measured-requires c =
     let f6 : SFits w64 c.in-Usable-read.c2 = search rules in
     let v : Within (Usable c.in-Usable.n1 c.in-Usable.e1 c.in-Usable.c1) = subst Within (first (goal.at.measured-requires c).In-Usable) (within _) in
     let w : Within (Usable c.in-Usable-read.n2 c.in-Usable-read.e2 c.in-Usable-read.c2) = subst Within (second c) (within _) in
-    rw (back f1, back f2, back f3, back f4, back f5) (v.2, ((v.0, v.1), (w.0, w.1)))
+    rw (back f1, back f2, back f3, back f4, back f5) (record { pos_bound = v.2; n1_bound = (v.0, v.1); n2_bound = (w.0, w.1) })
 
 pub returns-in-Bad : goal.returns-in-Bad
 returns-in-Bad c = c.refused.ensures ∙ first_bad _ _ (sym c.read.ensures ∙ c.in-Bad.is)

@@ -7,10 +7,9 @@ use Rattle.place.proofs.placing.Goals as goal
 pub returns-in-Cells : goal.returns-in-Cells
 unfolding placed
 returns-in-Cells c =
-    let v = c.p-1.given in
-    let f : SFits w64 v.0.0 = search rules in
-    let g : SFits w64 v.0.1.0 = search rules in
-    c.offset.ensures ∙ ap₂ offsets (back f) (back g) ∙ sym (ap placed v.1)
+    let f : SFits w64 c.in-Cells.dy = search rules in
+    let g : SFits w64 c.in-Cells.dx = search rules in
+    c.offset.ensures ∙ ap₂ offsets (back f) (back g) ∙ sym (ap placed c.in-Cells.is)
 
 pub returns-in-OnGround : goal.returns-in-OnGround
 unfolding placed

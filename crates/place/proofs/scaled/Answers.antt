@@ -13,7 +13,8 @@ pub truncating_f64_to_i64-n-requires : goal.truncating_f64_to_i64-n-requires
 unfolding of_bits neg
 truncating_f64_to_i64-n-requires c =
     let x = c.args.x in
-    castable _ _ _ _ (scale x (search rules) (in_range x c.if-x.true c.if-x-2.true))
+    let castable_here = castable _ _ _ _ (scale x (search rules) (in_range x c.if-x.true c.if-x-2.true)) in
+    record { lower_bound = castable_here.0; upper_bound = castable_here.1 }
 
 -- what the two calls and the comparison say, at the place behind the comparison
 told : (c : After-nearest_i64_to_f64) (b : Bool) → eq c.nearest_i64_to_f64.result (mul binary64 c.args.x (fin false 1 (pos 10))) ≡ b

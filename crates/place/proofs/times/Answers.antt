@@ -4,20 +4,21 @@ use Rattle.std.specs.Int.Signed.{quot_z, rem_z}
 use Rattle.place.specs.declared.Whole.TheVariants.{Of}
 use Rattle.tiling.specs.Laws.Signed.{back}
 use Rattle.place.specs.Laws.Integers.{positive_bits, quotient_fits, exact_yes, exact_no}
+use Rattle.place.proofs.times.Goals.{Start}
 use Rattle.place.proofs.times.Goals as goal
 
 -- the quotient and the remainder of the numbers that the machine reads back
-quotient : (s : tie.Start) → quot_z (to_z w64 (of_z w64 s.args.z)) (to_z w64 (of_z w64 s.args.c)) ≡ quot_z s.args.z s.args.c
-quotient s = ap₂ quot_z (back s.ranges.z) (back s.ranges.c)
+quotient : (c : Start) → quot_z (to_z w64 (of_z w64 c.args.z)) (to_z w64 (of_z w64 c.args.c)) ≡ quot_z c.args.z c.args.c
+quotient c = ap₂ quot_z (back c.ranges.z) (back c.ranges.c)
 
-remainder : (s : tie.Start) → of_z w64 (rem_z (to_z w64 (of_z w64 s.args.z)) (to_z w64 (of_z w64 s.args.c))) ≡ of_z w64 (rem_z s.args.z s.args.c)
-remainder s = ap₂ (λ (a b : ℤ). of_z w64 (rem_z a b)) (back s.ranges.z) (back s.ranges.c)
+remainder : (c : Start) → of_z w64 (rem_z (to_z w64 (of_z w64 c.args.z)) (to_z w64 (of_z w64 c.args.c))) ≡ of_z w64 (rem_z c.args.z c.args.c)
+remainder c = ap₂ (λ (a b : ℤ). of_z w64 (rem_z a b)) (back c.ranges.z) (back c.ranges.c)
 
 pub nonzero_rem-z : goal.nonzero_rem-z
-nonzero_rem-z s = (positive_bits _ s.requires, rw (quotient s) (quotient_fits _ _ s.ranges.z s.requires))
+nonzero_rem-z c = (positive_bits _ c.requires, rw (quotient (goal.at.nonzero_rem-z c).Start) (quotient_fits _ _ c.ranges.z c.requires))
 
 pub nonzero_div-result : goal.nonzero_div-result
-nonzero_div-result c = rem-if1 (goal.at.nonzero_div-result c).Start
+nonzero_div-result c = (positive_bits _ c.requires, rw (quotient (goal.at.nonzero_div-result c).Start) (quotient_fits _ _ c.ranges.z c.requires))
 
 pub returns-then-z-c-eq0 : goal.returns-then-z-c-eq0
 returns-then-z-c-eq0 c =
