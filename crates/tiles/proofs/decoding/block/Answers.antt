@@ -1,0 +1,32 @@
+-- `tiles::block` meets its contract: an aligned block lies wholly beyond the map or wholly within it, and there its codes follow one another.
+use Rattle.tiles.proofs.decoding.block.Goals.{Else-row-column}
+use Rattle.std.proofs.Common.{◌-◌, ◌^◌, ◌≤◌, arith}
+use Rattle.std.proofs.Math.Pow.{pow_mono}
+use Rattle.tiles.specs.Laws.Codes.{Inside, inside, inside-codes}
+use Rattle.tiles.specs.Laws.Tiles.{beyond_stored, inside_stored}
+use Rattle.tiles.proofs.decoding.block.Goals as goal
+
+pub returns-then-row-column : goal.returns-then-row-column
+returns-then-row-column c = beyond_stored c.args.n c.args.list.now c.args.row c.args.column c.args.from (rw c.side-end.ensures.is at c.if-row-column.true) c.store.ensures
+
+-- past the test the block lies within the map
+lies : (c : Else-row-column) → let a = c.args in Inside a.n a.row a.column
+lies c = inside _ _ _ _ c.requires.1 (rw c.side-end.ensures.is at c.if-row-column.false)
+
+pub overflow_sub-row : goal.overflow_sub-row
+overflow_sub-row c = (lies c).top
+
+pub overflow_sub-column : goal.overflow_sub-column
+overflow_sub-column c = (lies c).left
+
+pub code_of-code-requires : goal.code_of-code-requires
+code_of-code-requires c =
+    let p = lies c in
+    let q : 2 ^ c.args.n ≤ 2 ^ 15 = pow_mono c.requires.1.size in
+    (omega (arith, p.bottom), omega (arith, p.right), c.requires.0)
+
+pub decode-requires : goal.decode-requires
+decode-requires c = record { n = c.args.n; size = c.requires.1.size; formed = c.requires.1.formed; inside = rw c.code_of-code.ensures (inside-codes _ _ _ _ c.requires.1 (lies (goal.at.decode-requires c).Else-row-column)); room = c.requires.2; few = c.requires.3 }
+
+pub returns : goal.returns
+returns c = inside_stored c.args.n c.args.list.now c.args.row c.args.column c.args.from c.requires.1 (lies (goal.at.returns c).Else-row-column) _ c.code_of-code.ensures c.decode.ensures

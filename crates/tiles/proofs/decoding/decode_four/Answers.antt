@@ -1,0 +1,8 @@
+-- `tiles::decode_four` meets its contract: the four blocks are those of a square of 1,024 cells, in the order of their codes.
+use Rattle.std.proofs.Common.{◌-◌}
+use Rattle.probe.specs.Biased.{cell_about}
+use Rattle.tiles.specs.Laws.Tiles.{four_tile}
+use Rattle.tiles.proofs.decoding.decode_four.Goals as goal
+
+pub returns : goal.returns
+returns c = four_tile (cell_about c.args.n c.args.list.now) c.args.row c.args.column c.block.ensures c.block-2.ensures c.block-3.ensures c.block-4.ensures
