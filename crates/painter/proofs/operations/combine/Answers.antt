@@ -16,19 +16,19 @@ pub bounds-first-j : goal.bounds-first-j
 bounds-first-j c = omega (arith, c.loop-j.invariant.1, c.requires.0)
 
 pub overflow_cast-a : goal.overflow_cast-a
-overflow_cast-a c = omega (arith, (c.slice_known-in-loop-j-1.given c.loop-j.j).fits)
+overflow_cast-a c = omega (arith, (c.type_inv.first c.loop-j.j).fits)
 
 pub bounds-second-j : goal.bounds-second-j
 bounds-second-j c = omega (arith, c.requires.1)
 
 pub overflow_cast-b : goal.overflow_cast-b
-overflow_cast-b c = omega (arith, (c.shared_slice_known-in-loop-j-1.given c.loop-j.j).fits)
+overflow_cast-b c = omega (arith, (c.type_inv.second c.loop-j.j).fits)
 
 pub combined-requires : goal.combined-requires
 combined-requires c = tt
 
 small : (c : After-combined) → let k = c.loop-j in combine c.args.operation (get_or k.first k.j 0) (get_or c.args.second.now k.j 0) < colours
-small c = let k = c.loop-j in combine-lt c.args.operation _ _ (c.slice_known-in-loop-j-1.given k.j).fits (c.shared_slice_known-in-loop-j-1.given k.j).fits
+small c = let k = c.loop-j in combine-lt c.args.operation _ _ (c.slice_known-in-loop-j-1.given k.j).fits (c.type_inv.second k.j).fits
 
 pub overflow_cast-first : goal.overflow_cast-first
 overflow_cast-first c = omega (arith, c.combined.ensures, small c)

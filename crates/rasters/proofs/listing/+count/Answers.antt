@@ -75,7 +75,7 @@ pub count-se-requires : goal.count-se-requires
 count-se-requires t c = (omega (arith, c.decreases, c.if-level-eq0.false), counts_own _ _ _ _ _ _ (down t (goal.at.count-se-requires t c).After-side-side).se)
 
 bytes : (t : ℕ) (c : After-count-se t) → let a = c.args in (j : ℕ) → pixel a.n a.cells.now j < colours
-bytes t c = let a = c.args in coloured a.n a.cells.now c.shared_slice_known-1.given
+bytes t c = let a = c.args in coloured a.n a.cells.now c.type_inv.cells
 
 -- each quarter's part
 parts : (t : ℕ) (c : After-count-se t) →

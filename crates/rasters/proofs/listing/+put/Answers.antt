@@ -68,7 +68,7 @@ abbrev picture : (t : ℕ) → After-area-area t → ℕ → ℕ
 picture t c = let a = c.args in pixel a.n a.cells.now
 
 bytes : (t : ℕ) (c : After-area-area t) (j : ℕ) → picture t c j < colours
-bytes t c = let a = c.args in coloured a.n a.cells.now c.shared_slice_known-1.given
+bytes t c = let a = c.args in coloured a.n a.cells.now c.type_inv.cells
 
 down : (t : ℕ) (c : After-area-area t) →
     let a = c.args in

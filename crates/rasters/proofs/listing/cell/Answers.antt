@@ -25,7 +25,7 @@ bounds-cells-i c = omega (arith, at (goal.at.bounds-cells-i c).After-side, c.req
 pub overflow_cast-result : goal.overflow_cast-result
 overflow_cast-result c =
     let a = c.args in
-    omega (arith, c.shared_slice_known-2-1.given (a.y * c.side.result + a.x))
+    omega (arith, c.type_inv.cells (a.y * c.side.result + a.x))
 
 pub returns : goal.returns
 returns c =

@@ -40,7 +40,7 @@ pub cell-se-requires : goal.cell-se-requires
 cell-se-requires c = first-pixel _ _ _ _ _ _ (down (goal.at.cell-se-requires c).Start).se
 
 bytes : (c : After-cell-se) → let a = c.args in (j : ℕ) → pixel a.n a.cells.now j < colours
-bytes c = let a = c.args in coloured a.n a.cells.now c.shared_slice_known-1.given
+bytes c = let a = c.args in coloured a.n a.cells.now c.type_inv.cells
 
 -- each cell's part
 parts : (c : After-cell-se) →

@@ -39,7 +39,7 @@ pub count_cells-se-requires : goal.count_cells-se-requires
 count_cells-se-requires c = counts_own _ _ _ _ _ _ (down (goal.at.count_cells-se-requires c).Start).se
 
 bytes : (c : After-count_cells-se) → let a = c.args in (j : ℕ) → pixel a.n a.cells.now j < colours
-bytes c = let a = c.args in coloured a.n a.cells.now c.shared_slice_known-1.given
+bytes c = let a = c.args in coloured a.n a.cells.now c.type_inv.cells
 
 -- each quarter's part
 parts : (c : After-count_cells-se) →

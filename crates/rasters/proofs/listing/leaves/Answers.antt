@@ -15,4 +15,4 @@ pub returns : goal.returns
 returns c =
     let a = c.args in
     let f = pixel a.n a.cells.now in
-    c.size.ensures ∙ whole-size f (coloured a.n a.cells.now c.shared_slice_known-1.given) a.n c.requires.size _ (c.count.ensures ∙ ap (part f a.n) (code-zero 16))
+    c.size.ensures ∙ whole-size f (coloured a.n a.cells.now c.type_inv.cells) a.n c.requires.size _ (c.count.ensures ∙ ap (part f a.n) (code-zero 16))

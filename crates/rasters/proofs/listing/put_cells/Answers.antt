@@ -43,7 +43,7 @@ all c =
     let a = c.args in
     let o = a.out.now in
     let d = down (goal.at.After-cell-se c).Start in
-    ready (pixel a.n a.cells.now) (coloured a.n a.cells.now c.shared_slice_known-1.given) o a.at 0 a.code c.requires.placed
+    ready (pixel a.n a.cells.now) (coloured a.n a.cells.now c.type_inv.cells) o a.at 0 a.code c.requires.placed
     o _ _ (cell_wrote _ _ _ _ _ d.nw o _ _ c.cell-nw.ensures) o _ _ (cell_wrote _ _ _ _ _ d.ne o _ _ c.cell-ne.ensures)
     o _ _ (cell_wrote _ _ _ _ _ d.sw o _ _ c.cell-sw.ensures) o _ _ (cell_wrote _ _ _ _ _ d.se o _ _ c.cell-se.ensures)
     d.quarters.codes (omega arith)

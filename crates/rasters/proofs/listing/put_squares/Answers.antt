@@ -15,7 +15,7 @@ abbrev picture : After-slice_known-1 → ℕ → ℕ
 picture c = let a = c.args in pixel a.n a.cells.now
 
 bytes : (c : After-slice_known-1) (j : ℕ) → picture c j < colours
-bytes c = let a = c.args in coloured a.n a.cells.now c.shared_slice_known-1.given
+bytes c = let a = c.args in coloured a.n a.cells.now c.type_inv.cells
 
 down : (c : After-slice_known-1) → let a = c.args in Four a.n a.cells.now a.code a.y a.x 1 2 4
 down c = four _ _ _ _ _ 2 2 4 (omega arith) refl refl c.requires.counts

@@ -10,20 +10,20 @@ put-p-requires c =
     let a = c.args in
     record {
       counts = whole_counts _ _ c.requires.rastered;
-      placed = whole-placed (pixel a.n a.cells.now) (coloured a.n a.cells.now c.shared_slice_known-1.given) a.n c.requires.rastered.size a.out.now c.requires.fits;
+      placed = whole-placed (pixel a.n a.cells.now) (coloured a.n a.cells.now c.type_inv.cells) a.n c.requires.rastered.size a.out.now c.requires.fits;
     }
 
 pub fill-requires : goal.fill-requires
 fill-requires c =
     let a = c.args in
-    whole_fills (pixel a.n a.cells.now) (coloured a.n a.cells.now c.shared_slice_known-1.given) a.n c.requires.rastered.size a.out.now c.requires.fits
+    whole_fills (pixel a.n a.cells.now) (coloured a.n a.cells.now c.type_inv.cells) a.n c.requires.rastered.size a.out.now c.requires.fits
     _ _ c.put-p.ensures.part c.put-p.auto.out
 
 pub returns : goal.returns
 returns c =
     let a = c.args in
     let f = pixel a.n a.cells.now in
-    let b = coloured a.n a.cells.now c.shared_slice_known-1.given in
+    let b = coloured a.n a.cells.now c.type_inv.cells in
     let p = c.put-p in record {
       counted = c.size.ensures ∙ whole-size f b a.n c.requires.rastered.size _ p.ensures.part;
       left = c.fill.ensures ∙ whole-left f b a.n c.requires.rastered.size a.out.now c.requires.fits _ _ p.ensures.part p.auto.out p.ensures.left;

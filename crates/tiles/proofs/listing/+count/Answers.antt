@@ -89,10 +89,10 @@ pub joined-requires : goal.joined-requires
 joined-requires t c =
     let a = c.args in
     let e = parts t c in
-    omega (arith, ap (λ (q : ℕ). 4 * q) c.area-q.ensures.is, (down t (goal.at.joined-requires t c).After-area-q).codes, four_sizes (spots a.tile.now a.first) (coloured a.tile.now a.first c.shared_slice_known-1.given) a.level a.k (some t (goal.at.joined-requires t c).Else-level-eq1) _ _ _ _ e.0 e.1 e.2 e.3)
+    omega (arith, ap (λ (q : ℕ). 4 * q) c.area-q.ensures.is, (down t (goal.at.joined-requires t c).After-area-q).codes, four_sizes (spots a.tile.now a.first) (coloured a.tile.now a.first c.type_inv.tile) a.level a.k (some t (goal.at.joined-requires t c).Else-level-eq1) _ _ _ _ e.0 e.1 e.2 e.3)
 
 pub returns : goal.returns
 returns t c =
     let a = c.args in
     let e = parts t (goal.at.returns t c).After-count-se in
-    c.joined.ensures ∙ four_counted (spots a.tile.now a.first) (coloured a.tile.now a.first c.shared_slice_known-1.given) a.level a.k (some t (goal.at.returns t c).Else-level-eq1) _ _ _ _ e.0 e.1 e.2 e.3
+    c.joined.ensures ∙ four_counted (spots a.tile.now a.first) (coloured a.tile.now a.first c.type_inv.tile) a.level a.k (some t (goal.at.returns t c).Else-level-eq1) _ _ _ _ e.0 e.1 e.2 e.3

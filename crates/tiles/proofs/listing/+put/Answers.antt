@@ -53,7 +53,7 @@ abbrev scene : (t : ℕ) → After-area-q t → ℕ → ℕ
 scene t c = let a = c.args in spots a.tile.now a.first
 
 bytes : (t : ℕ) (c : After-area-q t) (j : ℕ) → scene t c j < colours
-bytes t c = let a = c.args in coloured a.tile.now a.first c.shared_slice_known-1.given
+bytes t c = let a = c.args in coloured a.tile.now a.first c.type_inv.tile
 
 down : (t : ℕ) (c : After-area-q t) → let a = c.args in Four a.first a.k (a.level - 1) (4 ^ (a.level - 1))
 down t c = four _ _ _ _ c.if-level-eq1.false refl c.requires.1.counts

@@ -3,4 +3,4 @@ use Rattle.std.proofs.Common.{◌-◌, arith}
 use Rattle.tiles.proofs.listing.cell.Goals as goal
 
 pub overflow_cast-result : goal.overflow_cast-result
-overflow_cast-result c = let a = c.args in omega (arith, (c.shared_slice_known-1.given (a.k - a.first)).fits)
+overflow_cast-result c = let a = c.args in omega (arith, (c.type_inv.tile (a.k - a.first)).fits)

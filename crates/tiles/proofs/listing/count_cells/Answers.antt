@@ -11,7 +11,7 @@ use Rattle.tiles.specs.Laws.Listing.{coloured}
 use Rattle.tiles.proofs.listing.count_cells.Goals as goal
 
 bytes : (c : After-cell-se) → let a = c.args in (j : ℕ) → spots a.tile.now a.first j < colours
-bytes c = let a = c.args in coloured a.tile.now a.first c.shared_slice_known-1.given
+bytes c = let a = c.args in coloured a.tile.now a.first c.type_inv.tile
 
 -- each cell's part
 parts : (c : After-cell-se) →

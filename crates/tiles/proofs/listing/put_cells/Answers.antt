@@ -15,7 +15,7 @@ all c =
     let a = c.args in
     let o = a.out.now in
     let f = spots a.tile.now a.first in
-    ready f (coloured a.tile.now a.first c.shared_slice_known-1.given) o a.at 0 a.k c.requires.1.placed
+    ready f (coloured a.tile.now a.first c.type_inv.tile) o a.at 0 a.k c.requires.1.placed
     o _ _ (cell_wrote f _ o _ _ c.cell-nw.ensures) o _ _ (cell_wrote f _ o _ _ c.cell-ne.ensures)
     o _ _ (cell_wrote f _ o _ _ c.cell-sw.ensures) o _ _ (cell_wrote f _ o _ _ c.cell-se.ensures)
     (omega (arith, c.requires.1.counts.to, c.requires.1.counts.small)) (omega arith)
