@@ -4,4 +4,3 @@ pub mod Run
 pub mod Colour
 pub mod Check
 pub mod Signed
-pub mod FirstWrong

@@ -15,7 +15,7 @@ use Rattle.tiling.specs.Laws.Colour.{colour_inside, colour_lt}
 use Rattle.tiling.specs.Check.{checked}
 use Rattle.tiling.specs.declared.Checked.{Checked}
 use Rattle.tiling.specs.declared.Checked.TheVariants.{Tiles, Wrong}
-use Rattle.tiling.specs.Laws.FirstWrong.{wrong_first}
+use Rattle.tiling.proofs.FirstWrong.{wrong_first}
 use Rattle.shortest.specs.Shortest.{shortest}
 use Rattle.shortest.specs.Outcome.{Outcome, fitting, written}
 use Rattle.shortest.specs.Laws.Part.{shortest-size}

@@ -15,7 +15,7 @@ use Rattle.tiling.specs.declared.Checked.TheVariants.{Tiles, Wrong}
 use Rattle.tiling.specs.Laws.Tests.{both_and}
 use Rattle.tiling.specs.Laws.Check.{tiles_formed, formed_tiles}
 use Rattle.tiling.specs.Laws.Colour.{colour_inside, colour_lt}
-use Rattle.tiling.specs.Laws.FirstWrong.{wrong_first, first_wrong}
+use Rattle.tiling.proofs.FirstWrong.{wrong_first, first_wrong}
 use Rattle.shortest.specs.Shortest.{shortest}
 use Rattle.shortest.specs.Demand.{IsShortest, shortest_is}
 use Rattle.shortest.specs.Outcome.{Outcome, fitting}

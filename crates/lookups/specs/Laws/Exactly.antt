@@ -7,7 +7,7 @@ use Rattle.tiling.specs.Check.{checked}
 use Rattle.tiling.specs.declared.Checked.{Checked}
 use Rattle.tiling.specs.declared.Checked.TheVariants.{Tiles, Wrong}
 use Rattle.tiling.specs.Laws.Check.{tiles_formed, formed_tiles}
-use Rattle.tiling.specs.Laws.FirstWrong.{wrong_first, first_wrong}
+use Rattle.tiling.proofs.FirstWrong.{wrong_first, first_wrong}
 use Rattle.lookups.specs.Lists.{list_check, cell_lookup}
 use Rattle.lookups.specs.Neighbour.{is_block, row_away, column_away, neighbour}
 use Rattle.lookups.specs.Allowed.{Checks, Looks, Nears}

@@ -4,7 +4,7 @@ use Rattle.morton.specs.Laws.Spread.{code-spread, spread-lt}
 use Rattle.morton.proofs.code_of.Goals as goal
 
 pub overflow_mul-result : goal.overflow_mul-result
-overflow_mul-result c = omega (arith, spread-lt 16 c.args.row)
+overflow_mul-result c = omega (arith, spread-lt 16 c.args.row, spread-lt 16 c.args.column)
 
 pub overflow_add-result : goal.overflow_add-result
 overflow_add-result c = omega (arith, spread-lt 16 c.args.row, spread-lt 16 c.args.column)

@@ -1,6 +1,6 @@
 -- `tiling::check` meets its contract. The loop keeps: the check of the list is that of what is left of it, after i entries that are
 -- right and end at `end`.
-use Rattle.std.proofs.Common.{refl, ◌-◌, arith}
+use Rattle.std.proofs.Common.{refl, arith}
 use Rattle.std.proofs.Math.Path.{◌∙◌}
 use Rattle.std.proofs.Math.ListN.{get_or}
 use Rattle.tiling.specs.Laws.Check.{entry_right, ends_right, ends_wrong}

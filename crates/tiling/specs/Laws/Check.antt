@@ -69,7 +69,7 @@ run_tiles n e i [] r = rw (eq-eqb e (4 ^ n) r)
 run_tiles n e i (w ∷ ws) r = rw (right_entry_lem n e w r.0) (run_tiles n (end_of w) (suc i) ws r.1)
 
 pub tiles_formed : (n : ℕ) (l : List ℕ) → checked n l ≡ Tiles → WellFormed n l
-tiles_formed n l h = run_formed (tiles_run n 0 0 l h)
+tiles_formed n l h = run_formed (tiles_run n 0 _ l h)
 
 pub formed_tiles : (n : ℕ) (l : List ℕ) → WellFormed n l → checked n l ≡ Tiles
-formed_tiles n l f = run_tiles n 0 0 l (formed_run f)
+formed_tiles n l f = run_tiles n 0 _ l (formed_run f)
