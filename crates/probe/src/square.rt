@@ -48,6 +48,7 @@ fn corner(
 
 // Whether a square has the colour of the aligned square that holds its upper left corner: the other three corners tell.
 // A right corner counts only if the column is no multiple of the side, a lower one only if the row is none.
+#[tactic(auto, using(crate::specs::Laws::Corners::two_rows, crate::specs::Laws::Corners::two_columns, crate::specs::Laws::Corners::four_corners))]
 fn across(
     n: u64,
     list: &[u64],

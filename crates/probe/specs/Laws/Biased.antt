@@ -1,6 +1,6 @@
 -- Biased numbers stand for rows and columns: a map's colour is the same at both, and a step is the same.
-use Rattle.std.specs.Prelude.{◌≡◌, refl, Bool, true, false, ◌&&◌, List, ℕ, zero, suc, ◌+◌, ◌-◌, ◌^◌, ◌<◌, ◌≤◌, leb, ltb, ℤ, pos, negsuc, ◌+ℤ◌, nat_abs}
-use Rattle.std.proofs.Common.{sym, ap, ap₂, ◌∙◌, add_comm, arith, lt-ltb, le-ltb, le-leb, ltb-true, ltb-false}
+use Rattle.std.specs.Prelude.{◌≡◌, refl, Bool, true, false, List, ℕ, suc, ◌+◌, ◌-◌, ◌^◌, ◌<◌, ◌≤◌, ltb, ℤ, pos, negsuc, ◌+ℤ◌, nat_abs}
+use Rattle.std.proofs.Common.{ap, add_comm, arith, lt-ltb, le-ltb, le-leb, ltb-true, ltb-false}
 use Rattle.std.proofs.Math.Bool.{and-false}
 use Rattle.std.proofs.Math.Nat.{add-sub_cancel_left}
 use Rattle.std.proofs.Math.IntN.{sub_ℕ}

@@ -1,5 +1,5 @@
 -- What the leaf of a cell tells of the squares about the cell.
-use Rattle.std.specs.Prelude.{◌≡◌, refl, Bool, true, false, ◌&&◌, List, ℕ, zero, suc, ◌+◌, ◌-◌, ◌*◌, ◌/◌, ◌%◌, ◌^◌, ◌<◌, ◌≤◌, leb, get_or}
+use Rattle.std.specs.Prelude.{◌≡◌, true, false, ◌&&◌, List, ℕ, zero, suc, ◌+◌, ◌-◌, ◌*◌, ◌/◌, ◌%◌, ◌^◌, ◌<◌, ◌≤◌, leb, get_or}
 use Rattle.std.proofs.Common.{sym, ap, ◌∙◌, mod-lt, arith, pow_pos, pow_mono, pow-add, leb-true, le-leb}
 use Rattle.std.proofs.lemmas.Bool.{false≢true}
 use Rattle.std.proofs.Math.Nat.{one-le-pow, div-div-eq-div-mul}

@@ -1,7 +1,7 @@
 -- A search goes by where entries begin. The code lies in the leaf that begins at or before it and whose follower begins past it.
-use Rattle.std.specs.Prelude.{◌≡◌, List, ℕ, zero, suc, ◌+◌, ◌/◌, ◌%◌, ◌^◌, ◌<◌, ◌≤◌, length, get_or}
+use Rattle.std.specs.Prelude.{◌≡◌, List, ℕ, zero, suc, ◌<◌, ◌≤◌, length, get_or}
 use Rattle.std.proofs.Common.{arith}
-use Rattle.tiling.specs.Leaf.{code_of, colour_of, end_of}
+use Rattle.tiling.specs.Leaf.{code_of, colour_of}
 use Rattle.tiling.specs.Map.{colour_at}
 use Rattle.tiling.specs.WellFormed.{Right, WellFormed, end_before}
 use Rattle.tiling.specs.Laws.Run.{formed_some}

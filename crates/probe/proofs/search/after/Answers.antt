@@ -1,6 +1,6 @@
 -- `probe::search::after` meets its contract. The loop keeps: the entry at `lo` begins at or before the code. Its step is never 0, so that
 -- less of the list is left at each turn.
-use Rattle.std.proofs.Common.{◌+◌, ◌-◌, arith}
+use Rattle.std.proofs.Common.{◌+◌, arith}
 use Rattle.probe.specs.Laws.Search.{begins_at, to_last}
 use Rattle.probe.proofs.search.after.Goals as goal
 

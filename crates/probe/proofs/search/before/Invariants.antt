@@ -1,6 +1,6 @@
 -- `probe::search::before` meets its contract. The loop keeps: the entry at `hi`, or the list's end, lies past the code. Its step is never
 -- 0, so that `hi` falls at each turn.
-use Rattle.std.proofs.Common.{◌-◌, ◌<◌, ◌≤◌, length}
+use Rattle.std.proofs.Common.{◌<◌, ◌≤◌, length}
 use Rattle.tiling.specs.WellFormed.{end_before}
 use Rattle.probe.proofs.search.before.Given as goal
 

@@ -57,16 +57,13 @@ returns-then-row-leaf_side c =
     tells_one _ _ _ _ c.colour_of-colour.result (omega (arith, c.colour_of-colour.ensures))
     (rw c.colour_of-colour.ensures (leaf_shows _ _ _ _ (first_cell _ _ _ _ _ c.requires.1) _ (found (goal.at.returns-then-row-leaf_side c).After-find-at) _ (rw (b, s, m) at f.0) (rw (b, s, m) at f.1)))
 
-pub returns-then-leaf_level-level : goal.returns-then-leaf_level-level
-returns-then-leaf_level-level c = tells_mixed _ _ _ _ (c.find-at.result + 256) (omega arith) (omega (arith, c.if-leaf_level-level.true))
-
 pub across-requires : goal.across-requires
 across-requires c =
     let p = c.requires in (
       p.0,
       record {
         within = p.1;
-        first = leaf_covers _ _ _ _ (first_cell _ _ _ _ _ p.1) _ (found (goal.at.across-requires c).After-find-at) _ _ (sym c.colour_of-colour.ensures) (rw c.level_of-leaf_level.ensures at c.if-leaf_level-level.false);
+        first = leaf_covers _ _ _ _ (first_cell _ _ _ _ _ p.1) _ (found (goal.at.across-requires c).After-find-at) _ _ (sym c.colour_of-colour.ensures) (omega (arith, c.level_of-leaf_level.ensures));
       },
     )
 
