@@ -26,7 +26,8 @@ use Rattle.lookups.specs.Allowed.{Checks, Looks, Nears}
 use Rattle.conversions.specs.Allowed.{Lists, Rasters}
 use Rattle.overlays.specs.Allowed.{Overlays, Windows}
 use Rattle.overlays.specs.Overlay.{window_of, window_cell, overlay_cell, by_code, overlaid, windowed}
-use Rattle.shortest.specs.Laws.Promises.{only, refused_keeps, given_keeps}
+use Rattle.shortest.specs.Laws.Promises.{refused_keeps, given_keeps}
+use Rattle.shortest.proofs.Promises.{only}
 use Rattle.conversions.specs.Laws.Promises.{list_refused, list_shown, raster_shown}
 use Rattle.overlays.specs.Laws.Promises.{overlay_refused, window_refused, overlay_list, window_list}
 use Rattle.refusal.specs.Rules as rule

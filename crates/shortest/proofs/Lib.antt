@@ -1,0 +1,9 @@
+pub mod Flat
+pub mod Paint
+pub mod Demand
+pub mod Only
+pub mod Promises
+pub mod Part
+pub mod Written
+pub mod Quarters
+pub mod Same

@@ -8,6 +8,5 @@ pub mod Written
 pub mod Quarters
 pub mod Same
 pub mod Outcome
-pub mod Only
 pub mod Shown
 pub mod Promises

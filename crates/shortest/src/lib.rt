@@ -26,6 +26,7 @@ pub fn size(p: u64) -> u64
 }
 
 // Whether four quarters are of one colour.
+#[tactic(auto, unfolding(crate::specs::Part::merge))]
 fn merge(p0: u64, p1: u64, p2: u64, p3: u64) -> bool
     ensures { result ≡ merge p0 p1 p2 p3 }
 {
@@ -70,6 +71,7 @@ fn settle(out: &mut [u64], at: u64, p0: u64, p1: u64, p2: u64, p3: u64, code: u6
 }
 
 // The part of a block, from its quarters', which are of the level. Unless the four merge, those of one colour are stored.
+#[tactic(auto, using(crate::specs::Laws::Written::finished_one))]
 pub fn finish(
     out: &mut [u64],
     at: u64,

@@ -17,9 +17,10 @@ use Rattle.tiling.specs.Laws.Check.{tiles_formed, formed_tiles}
 use Rattle.tiling.specs.Laws.Colour.{colour_inside, colour_lt}
 use Rattle.tiling.proofs.FirstWrong.{wrong_first, first_wrong}
 use Rattle.shortest.specs.Shortest.{shortest}
-use Rattle.shortest.specs.Demand.{IsShortest, shortest_is}
+use Rattle.shortest.specs.Demand.{IsShortest}
+use Rattle.shortest.proofs.Demand.{shortest_is}
 use Rattle.shortest.specs.Outcome.{Outcome, fitting}
-use Rattle.shortest.specs.Laws.Only.{only_shortest}
+use Rattle.shortest.proofs.Only.{only_shortest}
 use Rattle.shortest.specs.Laws.Outcome.{fitting_gives, fitting_refuses}
 use Rattle.rasters.specs.Raster.{pixel, raster_of}
 use Rattle.rasters.specs.Laws.Pixel.{place_lt}

@@ -14,10 +14,11 @@ use Rattle.tiling.specs.declared.Checked.TheVariants.{Tiles, Wrong}
 use Rattle.tiling.specs.Laws.Check.{tiles_formed, formed_tiles}
 use Rattle.tiling.proofs.FirstWrong.{wrong_first, first_wrong}
 use Rattle.shortest.specs.Shortest.{shortest}
-use Rattle.shortest.specs.Demand.{IsShortest, shortest_is}
+use Rattle.shortest.specs.Demand.{IsShortest}
+use Rattle.shortest.proofs.Demand.{shortest_is}
 use Rattle.shortest.specs.Outcome.{Outcome, fitting}
 use Rattle.shortest.specs.Laws.Outcome.{fitting_gives, fitting_refuses}
-use Rattle.shortest.specs.Laws.Only.{only_shortest}
+use Rattle.shortest.proofs.Only.{only_shortest}
 use Rattle.place.specs.Placing.{far}
 use Rattle.place.specs.declared.Shift.{Shift}
 use Rattle.painter.specs.declared.operations.Operation.{Operation}

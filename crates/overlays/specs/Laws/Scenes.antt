@@ -12,7 +12,7 @@ use Rattle.refusal.specs.Answer.{gives, refuses}
 use Rattle.refusal.specs.declared.Refusal.{Refusal}
 use Rattle.shortest.specs.Shortest.{shortest}
 use Rattle.shortest.specs.Outcome.{Outcome, fitting}
-use Rattle.shortest.specs.Laws.Only.{same-shortest}
+use Rattle.shortest.proofs.Only.{same-shortest}
 use Rattle.painter.specs.Laws.Blocks.{coloured}
 use Rattle.tiling.specs.WellFormed.{WellFormed}
 use Rattle.tiling.specs.Laws.Signed.{back, small_fits, abs_sum, abs_neg}

@@ -10,7 +10,7 @@ use Rattle.tiling.specs.Map.{limit, beyond, inside, colour_at, colour_in}
 use Rattle.tiling.specs.Check.{checked_from}
 use Rattle.tiling.specs.Laws.Colour.{colour_lt}
 use Rattle.shortest.specs.Shortest.{shortest}
-use Rattle.shortest.specs.Laws.Only.{same-shortest}
+use Rattle.shortest.proofs.Only.{same-shortest}
 use Rattle.place.specs.declared.Shift.{Shift}
 use Rattle.painter.specs.Operation.{combine}
 use Rattle.painter.specs.Laws.Table.{either_lt}

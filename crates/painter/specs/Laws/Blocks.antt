@@ -14,9 +14,10 @@ use Rattle.probe.specs.Laws.About.{is_one_lem, is_mixed}
 use Rattle.std.proofs.lemmas.List.Edits.{sets}
 use Rattle.shortest.specs.Part.{part}
 use Rattle.shortest.specs.Written.{inner}
-use Rattle.shortest.specs.Laws.Flat.{Flat, flat_uniform, flat_first}
+use Rattle.shortest.specs.Laws.Flat.{Flat, flat_first}
+use Rattle.shortest.proofs.Flat.{flat_uniform}
 use Rattle.shortest.specs.Laws.Part.{part_one}
-use Rattle.shortest.specs.Laws.Written.{flat_inner}
+use Rattle.shortest.proofs.Written.{flat_inner}
 use Rattle.painter.specs.Scene.{cell_of, picture, Scened, Knows, Probes}
 use Rattle.painter.specs.Painting.{Counts, Paints}
 use Rattle.painter.specs.Laws.Table.{either_lt, combine-lt}

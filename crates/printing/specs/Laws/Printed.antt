@@ -4,7 +4,8 @@ use Rattle.std.proofs.Common.{sym, ap, ◌∙◌, ⊎_elim, arith, eqb-true}
 use Rattle.tiling.specs.Leaf.{colours}
 use Rattle.tiling.specs.Laws.Tests.{or_either}
 use Rattle.shortest.specs.Shortest.{shortest}
-use Rattle.shortest.specs.Demand.{IsShortest, shortest_is, shortest_only}
+use Rattle.shortest.specs.Demand.{IsShortest}
+use Rattle.shortest.proofs.Demand.{shortest_is, shortest_only}
 use Rattle.morton.specs.Code.{row_of, column_of}
 use Rattle.rasters.specs.Raster.{pixel}
 use Rattle.pbm.specs.Picture.{Cells, IsPicture, Picture}

@@ -10,8 +10,8 @@ use Rattle.morton.specs.Laws.Cell.{cell_of-code}
 use Rattle.morton.specs.Laws.Block.{quarters, whole}
 use Rattle.tiling.specs.Leaf.{colours}
 use Rattle.shortest.specs.Part.{size_of}
-use Rattle.shortest.specs.Laws.Part.{part_cell}
-use Rattle.shortest.specs.Laws.Written.{cell_inner}
+use Rattle.shortest.proofs.Part.{part_cell}
+use Rattle.shortest.proofs.Written.{cell_inner}
 use Rattle.shortest.specs.Laws.Quarters.{Wrote}
 use Rattle.rasters.specs.Raster.{pixel}
 use Rattle.rasters.specs.Listing.{Rastered, Pixels, Counts}

@@ -14,8 +14,8 @@ use Rattle.tiling.specs.Leaf.{colours}
 use Rattle.tiling.specs.Map.{colour_at}
 use Rattle.tiling.specs.Laws.Colour.{colour_lt}
 use Rattle.shortest.specs.Shortest.{shortest}
-use Rattle.shortest.specs.Demand.{shortest_is}
-use Rattle.shortest.specs.Laws.Only.{same-shortest}
+use Rattle.shortest.proofs.Demand.{shortest_is}
+use Rattle.shortest.proofs.Only.{same-shortest}
 use Rattle.rasters.specs.Raster.{pixel, place_colour, raster_of}
 use Rattle.rasters.specs.Laws.Pixel.{square, place_lt, pixel-at}
 use Rattle.rasters.specs.Laws.Places.{raster_length_lem, raster_at, raster_by_cell}

@@ -1,5 +1,5 @@
 -- The common ending of every call that writes a list: it fits and is written before the old rest, or it is refused with its length.
-use Rattle.std.specs.Prelude.{◌≡◌, refl, List, ◌++◌, ℕ, ◌+◌, ◌-◌, ◌^◌, ◌≤◌, ◌<◌, length, drop}
+use Rattle.std.specs.Prelude.{◌≡◌, List, ◌++◌, ℕ, ◌^◌, ◌≤◌, ◌<◌, length, drop}
 use Rattle.std.proofs.Common.{sym, ap, ◌∙◌, arith, lt-ltb, le-ltb}
 use Rattle.std.proofs.Math.Nat.{pow-le-pow_right}
 use Rattle.std.proofs.lemmas.List.Edits.{sets}
@@ -12,7 +12,7 @@ use Rattle.shortest.specs.Part.{part, size_of}
 use Rattle.shortest.specs.Outcome.{Outcome, fitting, written, left}
 use Rattle.shortest.specs.Written.{inner, filled, Fills, Placed}
 use Rattle.shortest.specs.Laws.Stores.{sets_front}
-use Rattle.shortest.specs.Laws.Part.{many_size, part-size, part_small, shortest-size}
+use Rattle.shortest.specs.Laws.Part.{many_size, part-size, shortest-size}
 use Rattle.shortest.specs.Laws.Written.{filled-inner}
 
 pub fitting_gives : (l : List ℕ) (space : ℕ) → length l ≤ space → fitting l space ≡ gives l

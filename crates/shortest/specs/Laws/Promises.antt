@@ -1,15 +1,11 @@
 -- What follows from a list's being the shortest, and from what comes of a call: of no room, of the only shortest list, of the memory.
-use Rattle.std.specs.Prelude.{◌≡◌, refl, List, [], ◌∷◌, ◌++◌, ℕ, ◌+◌, ◌<◌, ◌≤◌, length, drop}
-use Rattle.std.proofs.Common.{sym, ap, ◌∙◌, arith}
+use Rattle.std.specs.Prelude.{◌≡◌, refl, List, [], ◌∷◌, ◌++◌, ℕ, ◌<◌, ◌≤◌, length, drop}
+use Rattle.std.proofs.Common.{ap, ◌∙◌, arith}
 use Rattle.refusal.specs.Rules as rule
 use Rattle.refusal.specs.Answer.{gives, refuses}
-use Rattle.tiling.specs.Leaf.{colours}
 use Rattle.tiling.specs.Map.{limit}
-use Rattle.tiling.specs.WellFormed.{WellFormed}
-use Rattle.shortest.specs.Shortest.{ShowsPicture}
 use Rattle.shortest.specs.Demand.{IsShortest, NoRoom}
 use Rattle.shortest.specs.Outcome.{Outcome, left}
-use Rattle.shortest.specs.Laws.Only.{only_shortest}
 
 -- ---- no room
 pub no_room_lem : (f : ℕ → ℕ) (n space : ℕ) (l : List ℕ) → IsShortest f n l → space < length l → NoRoom f n space (length l)
@@ -26,12 +22,6 @@ no_room_lem f n space l i h = record {
 abbrev pub Told : (ℕ → ℕ) → ℕ → ℕ → Outcome → Type 0
 Told f n space (gives l) = (n ≤ limit) × IsShortest f n l
 Told f n space (refuses r k) = r ≡ rule.no_room → NoRoom f n space k
-
--- ---- a shortest list is the only one of its length
-pub only : (f : ℕ → ℕ) (n : ℕ) (l : List ℕ) → n ≤ limit → ((k : ℕ) → f k < colours) → IsShortest f n l → (other : List ℕ) → WellFormed n other → ShowsPicture f n other → length other ≤ length l → other ≡ l
-only f n l low coloured i other g s h =
-    only_shortest f n (omega arith) coloured other (record { formed = g; shows = s; least = λ o p q. omega (arith, i.least o p q) })
-    ∙ sym (only_shortest f n (omega arith) coloured l i)
 
 -- ---- the memory lent
 drop_past : (l old : List ℕ) → drop (length l) (l ++ old) ≡ old

@@ -1,9 +1,9 @@
 -- A list that paints the whole square is well formed and shows the picture, and the other way round.
-use Rattle.std.specs.Prelude.{◌≡◌, refl, Bool, true, false, List, [], ◌∷◌, ◌++◌, ℕ, zero, suc, ◌+◌, ◌*◌, ◌%◌, ◌^◌, ◌≤◌, ◌<◌}
+use Rattle.std.specs.Prelude.{◌≡◌, refl, List, [], ◌∷◌, ◌++◌, ℕ, zero, suc, ◌+◌, ◌*◌, ◌%◌, ◌^◌, ◌≤◌, ◌<◌}
 use Rattle.std.proofs.Common.{sym, ap, ◌∙◌, subst, append_assoc, append-nil, le_refl, arith, lt-ltb, le-ltb}
 use Rattle.std.proofs.Math.Nat.{zero-mod}
 use Rattle.std.proofs.Math.Decide.{dec_le, dec_lt, ℕ_discrete}
-use Rattle.tiling.specs.Leaf.{leaf, colour_of, level_of, code_of, end_of}
+use Rattle.tiling.specs.Leaf.{leaf, colour_of, level_of, end_of}
 use Rattle.tiling.specs.Map.{colour_at}
 use Rattle.tiling.specs.WellFormed.{WellFormed}
 use Rattle.tiling.specs.Laws.Leaf.{leaf_colour, leaf_level, leaf-code, leaf-end, word_leaf}
@@ -11,7 +11,7 @@ use Rattle.tiling.specs.Laws.Run.{Run, run_formed, formed_run}
 use Rattle.shortest.specs.Shortest.{ShowsPicture}
 use Rattle.shortest.specs.Laws.Flat.{Flat, flat_first}
 use Rattle.shortest.specs.Laws.Paint.{Paint, one, four}
-use Rattle.shortest.specs.Laws.Power.{pow_pos, pow_four, pow-le, mod_down, mod-le, quarter_mod, inside-mod}
+use Rattle.shortest.specs.Laws.Power.{pow_pos, mod_down, mod-le, quarter_mod, inside-mod}
 
 -- the entries show f at the codes from e up to e'
 abbrev pub Agrees : (ℕ → ℕ) → ℕ → List ℕ → ℕ → Type 0

@@ -1,16 +1,15 @@
 -- What the four quarters' writes come to: nothing if the block is of one colour, and else its shortest list.
-use Rattle.std.specs.Prelude.{◌≡◌, Bool, true, false, List, [], ◌∷◌, ◌++◌, ℕ, zero, suc, ◌+◌, ◌*◌, ◌^◌, ◌≤◌, ◌<◌, ltb, length, set}
+use Rattle.std.specs.Prelude.{◌≡◌, Bool, true, false, List, [], ℕ, ◌+◌, ◌*◌, ◌^◌, ◌≤◌, ◌<◌, length, set}
 use Rattle.std.proofs.Math.Path.{refl}
-use Rattle.std.proofs.Common.{sym, ap, ◌∙◌, arith, length-set, lt-ltb, le-ltb, ltb-true, ltb-false}
+use Rattle.std.proofs.Common.{ap, ◌∙◌, arith, length-set, lt-ltb, le-ltb}
 use Rattle.std.proofs.lemmas.List.Edits.{sets}
 use Rattle.tiling.specs.Leaf.{leaf, colours}
 use Rattle.shortest.specs.Shortest.{uniform, shortest}
 use Rattle.shortest.specs.Part.{part, is_one, size_of, joined}
 use Rattle.shortest.specs.Written.{inner, filled, settled, finished}
-use Rattle.shortest.specs.Laws.Stores.{sets_four, set-sets}
-use Rattle.shortest.specs.Laws.Flat.{Flat, uniform_flat, flat_uniform}
-use Rattle.shortest.specs.Laws.Paint.{shortest_one, shortest_four}
-use Rattle.shortest.specs.Laws.Part.{part_one, part_many, part-size, part_small, part-joined, one_uniform, many_uniform}
+use Rattle.shortest.specs.Laws.Stores.{set-sets}
+use Rattle.shortest.specs.Laws.Paint.{shortest_one}
+use Rattle.shortest.specs.Laws.Part.{part_one, part_many}
 
 pub filled_one : (out : List ℕ) (at p k L : ℕ) → p < colours → filled out at p k L ≡ set out at (leaf k L p)
 unfolding filled
@@ -50,16 +49,9 @@ pub inner_one : (f : ℕ → ℕ) (L k : ℕ) → uniform f L k ≡ true → inn
 unfolding inner
 inner_one f L k h = rw h
 
-inner_many : (f : ℕ → ℕ) (L k : ℕ) → uniform f L k ≡ false → inner f L k ≡ shortest f L k
+pub inner_many : (f : ℕ → ℕ) (L k : ℕ) → uniform f L k ≡ false → inner f L k ≡ shortest f L k
 unfolding inner
 inner_many f L k h = rw h
-
--- a block that is known to be of one colour
-pub flat_inner : (f : ℕ → ℕ) (c L k : ℕ) → Flat f c L k → (o : List ℕ) (at : ℕ) → o ≡ sets o at (inner f L k)
-flat_inner f c L k h o at = rw (inner_one f L k (flat_uniform f c L k h))
-
-pub cell_inner : (f : ℕ → ℕ) (k : ℕ) (o : List ℕ) (at : ℕ) → o ≡ sets o at (inner f 0 k)
-cell_inner f k o at = flat_inner f (f k) 0 k (λ j lo hi. let e : j ≡ k = omega arith in ap f e) o at
 
 -- the four quarters' own writes, one after another
 abbrev pub four_inner : (ℕ → ℕ) → List ℕ → ℕ → ℕ → ℕ → ℕ → ℕ → ℕ → List ℕ
@@ -78,7 +70,7 @@ module _ (f : ℕ → ℕ) (coloured : (j : ℕ) → f j < colours) where
           let m : colours ≤ part f L k = omega (arith, part_many f L k e) in
           filled_many (sets o at (inner f L k)) at (part f L k) k L m ∙ ap (λ l. sets o at l) (inner_many f L k e)
 
-  four_filled : (L k₀ k₁ k₂ k₃ a₀ a₁ a₂ a₃ : ℕ) (o : List ℕ) → a₀ < a₁ → a₁ < a₂ → a₂ < a₃
+  pub four_filled : (L k₀ k₁ k₂ k₃ a₀ a₁ a₂ a₃ : ℕ) (o : List ℕ) → a₀ < a₁ → a₁ < a₂ → a₂ < a₃
       → filled (filled (filled (filled (sets (sets (sets (sets o a₀ (inner f L k₀)) a₁ (inner f L k₁)) a₂ (inner f L k₂)) a₃ (inner f L k₃)) a₀ (part f L k₀) k₀ L) a₁ (part f L k₁) k₁ L) a₂ (part f L k₂) k₂ L) a₃ (part f L k₃) k₃ L
       ≡ sets (sets (sets (sets o a₀ (shortest f L k₀)) a₁ (shortest f L k₁)) a₂ (shortest f L k₂)) a₃ (shortest f L k₃)
   four_filled L k₀ k₁ k₂ k₃ a₀ a₁ a₂ a₃ o h₁ h₂ h₃ =
@@ -86,49 +78,6 @@ module _ (f : ℕ → ℕ) (coloured : (j : ℕ) → f j < colours) where
       let h₀₃ : a₀ < a₃ = omega arith in
       let h₁₃ : a₁ < a₃ = omega arith in
       simp (filled-sets, filled-inner)
-
-  -- the quarters of a block of one colour write nothing
-  four_none : (o : List ℕ) (a₀ a₁ a₂ a₃ L k : ℕ) → uniform f (suc L) k ≡ true → four_inner f o a₀ a₁ a₂ a₃ L k ≡ o
-  four_none o a₀ a₁ a₂ a₃ L k u =
-      rw (none k (omega arith) (omega arith), none (k + 4 ^ L) (omega arith) (omega arith), none (k + 2 * 4 ^ L) (omega arith) (omega arith), none (k + 3 * 4 ^ L) (omega arith) (omega arith))
-    where
-      none : (i : ℕ) → k ≤ i → i + 4 ^ L ≤ k + 4 ^ suc L → inner f L i ≡ []
-      none i lo hi = inner_one f L i (flat_uniform f (f k) L i (λ j a b. uniform_flat f (suc L) k u j (omega arith) (omega arith)))
-
-  -- the quarters' writes, finished, are the block's
-  module _ (o : List ℕ) (at L k : ℕ) where
-    abbrev s₀ : ℕ
-    s₀ = size_of (part f L k)
-
-    abbrev s₁ : ℕ
-    s₁ = size_of (part f L (k + 4 ^ L))
-
-    abbrev s₂ : ℕ
-    s₂ = size_of (part f L (k + 2 * 4 ^ L))
-
-    pub four_finished :
-        finished (four_inner f o at (at + s₀) (at + s₀ + s₁) (at + s₀ + s₁ + s₂) L k) at (part f L k) (part f L (k + 4 ^ L)) (part f L (k + 2 * 4 ^ L)) (part f L (k + 3 * 4 ^ L)) k L
-        ≡ sets o at (inner f (suc L) k)
-    unfolding settled
-    four_finished = go (uniform f (suc L) k) refl
-      where
-        j : part f (suc L) k ≡ joined (part f L k) (part f L (k + 4 ^ L)) (part f L (k + 2 * 4 ^ L)) (part f L (k + 3 * 4 ^ L))
-        j = part-joined f coloured L k
-
-        go : (b : Bool) → uniform f (suc L) k ≡ b
-            → finished (four_inner f o at (at + s₀) (at + s₀ + s₁) (at + s₀ + s₁ + s₂) L k) at (part f L k) (part f L (k + 4 ^ L)) (part f L (k + 2 * 4 ^ L)) (part f L (k + 3 * 4 ^ L)) k L
-            ≡ sets o at (inner f (suc L) k)
-        go true u =
-            finished_one _ at _ _ _ _ k L (omega (arith, j, part_one f (suc L) k u, coloured k))
-            ∙ four_none o at (at + s₀) (at + s₀ + s₁) (at + s₀ + s₁ + s₂) L k u
-            ∙ sym (ap (λ l. sets o at l) (inner_one f (suc L) k u))
-        go false u =
-            finished_many _ at _ _ _ _ k L (omega (arith, j, part_many f (suc L) k u))
-            ∙ four_filled L k (k + 4 ^ L) (k + 2 * 4 ^ L) (k + 3 * 4 ^ L) at (at + s₀) (at + s₀ + s₁) (at + s₀ + s₁ + s₂) o
-            (omega (arith, part_small f coloured L k)) (omega (arith, part_small f coloured L (k + 4 ^ L))) (omega (arith, part_small f coloured L (k + 2 * 4 ^ L)))
-            ∙ sets_four (shortest f L k) (shortest f L (k + 4 ^ L)) (shortest f L (k + 2 * 4 ^ L)) (shortest f L (k + 3 * 4 ^ L)) o at _ _ _
-            (ap (λ (n : ℕ). at + n) (part-size f coloured L k)) (ap (λ (n : ℕ). at + s₀ + n) (part-size f coloured L (k + 4 ^ L))) (ap (λ (n : ℕ). at + s₀ + s₁ + n) (part-size f coloured L (k + 2 * 4 ^ L)))
-            ∙ ap (λ l. sets o at l) (sym (shortest_four f L k u) ∙ sym (inner_many f (suc L) k u))
 
 -- four stores one after another, by the area q and the sizes s that the code has at hand
 pub settled_four : (o o₁ o₂ o₃ o₄ : List ℕ) (at s₀ s₁ s₂ p₀ p₁ p₂ p₃ k L q : ℕ) → q ≡ 4 ^ L → s₀ ≡ size_of p₀ → s₁ ≡ size_of p₁ → s₂ ≡ size_of p₂

@@ -7,10 +7,12 @@ use Rattle.std.specs.Int.{w8}
 use Rattle.morton.specs.Power.{highest}
 use Rattle.tiling.specs.Leaf.{colours}
 use Rattle.shortest.specs.Part.{part, size_of}
-use Rattle.shortest.specs.Laws.Part.{part_cell, part_one}
-use Rattle.shortest.specs.Laws.Flat.{Flat, flat_uniform}
+use Rattle.shortest.specs.Laws.Part.{part_one}
+use Rattle.shortest.proofs.Part.{part_cell}
+use Rattle.shortest.specs.Laws.Flat.{Flat}
+use Rattle.shortest.proofs.Flat.{flat_uniform}
 use Rattle.shortest.specs.Laws.Power.{pow_pos, pow_four, pow-le}
-use Rattle.shortest.specs.Laws.Written.{cell_inner}
+use Rattle.shortest.proofs.Written.{cell_inner}
 use Rattle.shortest.specs.Laws.Quarters.{Wrote}
 use Rattle.tiles.specs.Listing.{spots, Counts}
 

@@ -5,7 +5,8 @@ use Rattle.std.proofs.Math.Path.{◌≡◌, ◌∙◌}
 use Rattle.std.proofs.Common.{ap, arith, ℕ, ◌+◌, ◌*◌, ◌-◌, ◌^◌, ◌<◌}
 use Rattle.morton.specs.Laws.Block.{block_level}
 use Rattle.shortest.specs.Part.{part}
-use Rattle.shortest.specs.Laws.Quarters.{four_counted, four_sizes}
+use Rattle.shortest.specs.Laws.Quarters.{four_sizes}
+use Rattle.shortest.proofs.Quarters.{four_counted}
 use Rattle.painter.specs.Scene.{picture}
 use Rattle.painter.specs.Laws.Tiles.{told_tiled, told_counts}
 use Rattle.painter.specs.Laws.Blocks.{coloured, told_one, told_mixed, shows_part, probes, Four, four}

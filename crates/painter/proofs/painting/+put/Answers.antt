@@ -9,7 +9,8 @@ use Rattle.morton.specs.Laws.Block.{block_level}
 use Rattle.tiling.specs.Leaf.{colours}
 use Rattle.shortest.specs.Part.{part, size_of}
 use Rattle.shortest.specs.Written.{inner, Placed}
-use Rattle.shortest.specs.Laws.Quarters.{Wrote, Ready, ready, placed-suc, placed_nw, placed_ne, placed_sw, placed_se, small₁, small₂, small₃}
+use Rattle.shortest.specs.Laws.Quarters.{Wrote, Ready, placed-suc}
+use Rattle.shortest.proofs.Quarters.{ready, placed_nw, placed_ne, placed_sw, placed_se, small₁, small₂, small₃}
 use Rattle.painter.specs.Scene.{picture}
 use Rattle.painter.specs.Laws.Tiles.{told_tiled, told_puts}
 use Rattle.painter.specs.Laws.Blocks.{coloured, told_one, told_mixed, shows_part, shows_inner, probes, Four, four}

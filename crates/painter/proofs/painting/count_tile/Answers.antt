@@ -1,7 +1,7 @@
 -- `painter::count_tile` meets its contract: the tile shows what the picture is over the block.
 use Rattle.std.proofs.Common.{sym}
 use Rattle.std.proofs.Math.Path.{◌∙◌}
-use Rattle.shortest.specs.Laws.Same.{part_same}
+use Rattle.shortest.proofs.Same.{part_same}
 use Rattle.tiles.specs.Listing.{spots}
 use Rattle.painter.specs.Scene.{picture}
 use Rattle.painter.specs.Laws.Tiles.{block_same, block_tiles}

@@ -3,7 +3,8 @@ use Rattle.painter.proofs.painting.put_tile.Goals.{After-tile}
 use Rattle.std.proofs.Common.{sym, ap, List, ℕ}
 use Rattle.std.proofs.Math.Path.{◌∙◌}
 use Rattle.std.proofs.lemmas.List.Edits.{sets}
-use Rattle.shortest.specs.Laws.Same.{Same, part_same, inner-same, placed_same}
+use Rattle.shortest.specs.Laws.Same.{Same}
+use Rattle.shortest.proofs.Same.{part_same, inner-same, placed_same}
 use Rattle.tiles.specs.Listing.{spots}
 use Rattle.painter.specs.Scene.{picture}
 use Rattle.painter.specs.Laws.Tiles.{block_counts, block_same, block_tiles}

@@ -10,9 +10,10 @@ use Rattle.rasters.specs.Raster.{pixel}
 use Rattle.morton.specs.Power.{highest}
 use Rattle.morton.specs.Laws.Block.{block_level}
 use Rattle.shortest.specs.Written.{inner, Placed}
-use Rattle.shortest.specs.Laws.Part.{part_cell}
-use Rattle.shortest.specs.Laws.Written.{cell_inner}
-use Rattle.shortest.specs.Laws.Quarters.{Wrote, Ready, ready, placed-suc, placed_nw, placed_ne, placed_sw, placed_se, small₁, small₂, small₃}
+use Rattle.shortest.proofs.Part.{part_cell}
+use Rattle.shortest.proofs.Written.{cell_inner}
+use Rattle.shortest.specs.Laws.Quarters.{Wrote, Ready, placed-suc}
+use Rattle.shortest.proofs.Quarters.{ready, placed_nw, placed_ne, placed_sw, placed_se, small₁, small₂, small₃}
 use Rattle.rasters.specs.Laws.Pixel.{Four, four, first-pixel, coloured}
 use Rattle.rasters.proofs.listing.+put.Goals as goal
 

@@ -5,8 +5,9 @@ use Rattle.std.proofs.Common.{refl, sym, ap, arith, ℕ, ◌+◌, ◌*◌, ◌-�
 use Rattle.morton.specs.Code.{code}
 use Rattle.tiling.specs.Leaf.{colours}
 use Rattle.shortest.specs.Part.{part}
-use Rattle.shortest.specs.Laws.Part.{part_cell}
-use Rattle.shortest.specs.Laws.Quarters.{four_counted, four_sizes}
+use Rattle.shortest.proofs.Part.{part_cell}
+use Rattle.shortest.specs.Laws.Quarters.{four_sizes}
+use Rattle.shortest.proofs.Quarters.{four_counted}
 use Rattle.rasters.specs.Raster.{pixel}
 use Rattle.rasters.specs.Laws.Pixel.{Four, four, first-pixel, coloured}
 use Rattle.rasters.proofs.listing.count_cells.Goals as goal

@@ -5,7 +5,8 @@ use Rattle.std.proofs.Common.{refl, sym, ap, arith, ℕ, ◌+◌, ◌*◌, ◌-�
 use Rattle.morton.specs.Code.{code}
 use Rattle.tiling.specs.Leaf.{colours}
 use Rattle.shortest.specs.Part.{part}
-use Rattle.shortest.specs.Laws.Quarters.{four_counted, four_sizes}
+use Rattle.shortest.specs.Laws.Quarters.{four_sizes}
+use Rattle.shortest.proofs.Quarters.{four_counted}
 use Rattle.rasters.specs.Raster.{pixel}
 use Rattle.rasters.specs.Laws.Pixel.{Four, four, counts_own, coloured}
 use Rattle.rasters.proofs.listing.count_squares.Goals as goal

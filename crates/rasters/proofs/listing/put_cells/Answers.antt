@@ -2,7 +2,8 @@
 use Rattle.rasters.proofs.listing.put_cells.Goals.{Start, After-cell-se}
 use Rattle.std.proofs.Common.{refl, arith}
 use Rattle.std.proofs.Math.Path.{◌∙◌}
-use Rattle.shortest.specs.Laws.Quarters.{Ready, ready}
+use Rattle.shortest.specs.Laws.Quarters.{Ready}
+use Rattle.shortest.proofs.Quarters.{ready}
 use Rattle.rasters.specs.Raster.{pixel}
 use Rattle.rasters.specs.Laws.Pixel.{Four, four, first-pixel, coloured, cell_wrote}
 use Rattle.rasters.proofs.listing.put_cells.Goals as goal

@@ -5,7 +5,8 @@ use Rattle.std.proofs.Math.Path.{◌∙◌}
 use Rattle.tiling.specs.Leaf.{colours}
 use Rattle.shortest.specs.Part.{size_of}
 use Rattle.shortest.specs.Written.{Placed}
-use Rattle.shortest.specs.Laws.Quarters.{Wrote, Ready, ready, placed_nw, placed_ne, placed_sw, placed_se, small₁, small₂, small₃}
+use Rattle.shortest.specs.Laws.Quarters.{Wrote, Ready}
+use Rattle.shortest.proofs.Quarters.{ready, placed_nw, placed_ne, placed_sw, placed_se, small₁, small₂, small₃}
 use Rattle.rasters.specs.Raster.{pixel}
 use Rattle.rasters.specs.Laws.Pixel.{Four, four, coloured}
 use Rattle.rasters.proofs.listing.put_squares.Goals as goal

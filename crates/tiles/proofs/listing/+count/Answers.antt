@@ -3,7 +3,8 @@ use Rattle.tiles.proofs.listing.+count.Goals.{Else-level-eq1, After-area-q, Afte
 use Rattle.std.proofs.Math.Path.{◌≡◌, ◌∙◌}
 use Rattle.std.proofs.Common.{ap, arith, ℕ, ◌+◌, ◌*◌, ◌-◌, ◌^◌, ◌<◌}
 use Rattle.shortest.specs.Part.{part}
-use Rattle.shortest.specs.Laws.Quarters.{four_counted, four_sizes}
+use Rattle.shortest.specs.Laws.Quarters.{four_sizes}
+use Rattle.shortest.proofs.Quarters.{four_counted}
 use Rattle.tiles.specs.Listing.{spots}
 use Rattle.tiles.specs.Laws.Listing.{coloured, Four, four, low, first_in, flat_part}
 use Rattle.tiles.proofs.listing.+count.Goals as goal

@@ -8,8 +8,9 @@ use Rattle.morton.specs.Power.{highest}
 use Rattle.tiling.specs.Leaf.{colours}
 use Rattle.shortest.specs.Part.{part, size_of}
 use Rattle.shortest.specs.Written.{inner, Placed}
-use Rattle.shortest.specs.Laws.Written.{flat_inner}
-use Rattle.shortest.specs.Laws.Quarters.{Wrote, Ready, ready, placed-suc, placed_nw, placed_ne, placed_sw, placed_se, small₁, small₂, small₃}
+use Rattle.shortest.proofs.Written.{flat_inner}
+use Rattle.shortest.specs.Laws.Quarters.{Wrote, Ready, placed-suc}
+use Rattle.shortest.proofs.Quarters.{ready, placed_nw, placed_ne, placed_sw, placed_se, small₁, small₂, small₃}
 use Rattle.tiles.specs.Listing.{spots}
 use Rattle.tiles.specs.Laws.Listing.{coloured, Four, four, low, first_in, flat_part}
 use Rattle.tiles.proofs.listing.+put.Goals as goal

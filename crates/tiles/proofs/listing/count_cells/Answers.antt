@@ -4,8 +4,9 @@ use Rattle.std.proofs.Math.Path.{◌≡◌, ◌∙◌}
 use Rattle.std.proofs.Common.{sym, arith, ℕ, ◌+◌, ◌*◌, ◌-◌, ◌<◌}
 use Rattle.tiling.specs.Leaf.{colours}
 use Rattle.shortest.specs.Part.{part}
-use Rattle.shortest.specs.Laws.Part.{part_cell}
-use Rattle.shortest.specs.Laws.Quarters.{four_counted, four_sizes}
+use Rattle.shortest.proofs.Part.{part_cell}
+use Rattle.shortest.specs.Laws.Quarters.{four_sizes}
+use Rattle.shortest.proofs.Quarters.{four_counted}
 use Rattle.tiles.specs.Listing.{spots}
 use Rattle.tiles.specs.Laws.Listing.{coloured}
 use Rattle.tiles.proofs.listing.count_cells.Goals as goal

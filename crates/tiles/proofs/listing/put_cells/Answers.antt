@@ -2,7 +2,8 @@
 use Rattle.tiles.proofs.listing.put_cells.Goals.{After-cell-se}
 use Rattle.std.proofs.Math.Path.{◌∙◌}
 use Rattle.std.proofs.Common.{◌-◌, arith}
-use Rattle.shortest.specs.Laws.Quarters.{Ready, ready}
+use Rattle.shortest.specs.Laws.Quarters.{Ready}
+use Rattle.shortest.proofs.Quarters.{ready}
 use Rattle.tiles.specs.Listing.{spots}
 use Rattle.tiles.specs.Laws.Listing.{coloured, cell_wrote}
 use Rattle.tiles.proofs.listing.put_cells.Goals as goal

@@ -1,9 +1,10 @@
 -- There is one shortest list, and it depends on the picture alone.
-use Rattle.std.specs.Prelude.{◌≡◌, List, ℕ, ◌^◌, ◌≤◌, ◌<◌, length}
+use Rattle.std.specs.Prelude.{◌≡◌, List, ℕ, ◌^◌, ◌<◌}
 use Rattle.std.proofs.Common.{sym, ◌∙◌, arith}
 use Rattle.tiling.specs.Leaf.{colours}
 use Rattle.shortest.specs.Shortest.{shortest}
-use Rattle.shortest.specs.Demand.{IsShortest, shortest_only, shortest_least, shortest_is}
+use Rattle.shortest.specs.Demand.{IsShortest}
+use Rattle.shortest.proofs.Demand.{shortest_only, shortest_least, shortest_is}
 
 module _ (f : ℕ → ℕ) (n : ℕ) (small : n < 256) (coloured : (j : ℕ) → f j < colours) where
   -- a shortest list is the rule's
