@@ -73,6 +73,7 @@ pub fn scaled(x: f64) -> Whole
 }
 
 // A cell side is above zero as well.
+#[tactic(auto, unfolding(crate::specs::Placing::cell_side))]
 pub fn side(x: f64) -> Whole
     ensures { result ≡ cell_side x }
 {
@@ -99,6 +100,7 @@ fn read(g: Ground) -> Reading
 }
 
 // How many times c goes into z, where it does so without a rest.
+#[tactic(auto, using(crate::proofs::Quotient::whole_times, crate::specs::Laws::Integers::exact_no))]
 pub fn times(z: i64, c: i64) -> Whole
     requires { pos 0 <ℤ c }
     ensures { result ≡ exact z c }
@@ -133,6 +135,7 @@ fn offset(dy: i64, dx: i64) -> Placed
 }
 
 // The shift between two references that are read: north falls as rows grow, east grows with columns.
+#[tactic(auto, using(crate::specs::Laws::Integers::same_no, crate::specs::Laws::Integers::cells_differ))]
 fn measured(n1: i64, e1: i64, c1: i64, n2: i64, e2: i64, c2: i64) -> Placed
     requires pos_bound { pos 0 <ℤ c1 }
     requires n1_bound { (unsigned_abs n1 ≤ reach) × (unsigned_abs e1 ≤ reach) }

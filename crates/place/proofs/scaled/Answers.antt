@@ -21,7 +21,6 @@ told : (c : After-nearest_i64_to_f64) (b : Bool) → eq c.nearest_i64_to_f64.res
     → in1024ths c.args.x ≡ cond b (Of c.truncating_f64_to_i64-n.result) Nothing
 unfolding of_bits neg
 told c b e =
-    
     let n = c.truncating_f64_to_i64-n.result in
     answer c.args.x (search rules) c.if-x.true c.if-x-2.true
     n c.nearest_i64_to_f64.result b
