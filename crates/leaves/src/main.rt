@@ -2,7 +2,7 @@
 // All that it does is `printing::leaves`.
 #![tactic(auto)]
 
-ghost use Rattle.std.specs.Prelude.{◌≡◌, ◌≤◌, length, IfOk};
+ghost use Rattle.std.specs.Prelude.{◌≡◌, ◌≤◌, length};
 
 use std::io;
 use std::io::Read;
@@ -20,24 +20,26 @@ fn no_lines() -> [u8; 16384]
     [0; 16384]
 }
 
-// Reads until the text is full or the input ends, and answers how many bytes there are.
-fn read_full(input: &mut impl Read, text: &mut [u8]) -> io::Result<usize>
-    ensures { IfOk result (λ got. got ≤ length text.new) }
+// Reads until the text is full, the input ends or a read fails, and says how many bytes stand in the text then.
+fn read_full(input: &mut impl Read, text: &mut [u8]) -> usize
+    ensures { result ≤ length text.new }
 {
     let mut got = 0;
     while got < text.len() {
-        let more = input.read(&mut text[got..])?;
+        let Ok(more) = input.read(&mut text[got..]) else {
+            break;
+        };
         if more == 0 {
             break;
         }
         got += more;
     }
-    Ok(got)
+    got
 }
 
 fn main(rt: HostRuntime) -> io::Result<()> {
     let mut text = no_text();
-    let got = read_full(&mut rt.stdin(), &mut text)?;
+    let got = read_full(&mut rt.stdin(), &mut text);
     let mut out = no_lines();
     let put = printing::leaves(&text[..got], &mut out);
     rt.write_all(&out[..put])
