@@ -2,7 +2,10 @@
 // All that it does is `printing::leaves`.
 #![tactic(auto)]
 
-ghost use Rattle.std.specs.Prelude.{◌≡◌, length};
+ghost use Rattle.std.specs.Prelude.{◌≡◌, ◌≤◌, length};
+
+use std::io;
+use std::io::Read;
 
 // Room for the text: one byte more than is ever read tells an input that is too long.
 fn no_text() -> [u8; 65537]
@@ -17,10 +20,27 @@ fn no_lines() -> [u8; 16384]
     [0; 16384]
 }
 
-fn main() {
+// Reads until the text is full, the input ends or a read fails, and says how many bytes stand in the text then.
+fn read_full(input: &mut impl Read, text: &mut [u8]) -> usize
+    ensures { result ≤ length text.new }
+{
+    let mut got = 0;
+    while got < text.len() {
+        let Ok(more) = input.read(&mut text[got..]) else {
+            break;
+        };
+        if more == 0 {
+            break;
+        }
+        got += more;
+    }
+    got
+}
+
+fn main(rt: HostRuntime) -> io::Result<()> {
     let mut text = no_text();
-    let got = io::read_full(0, &mut text);
+    let got = read_full(&mut rt.stdin(), &mut text);
     let mut out = no_lines();
     let put = printing::leaves(&text[..got], &mut out);
-    io::write_all(1, &out[..put]);
+    rt.write_all(&out[..put])
 }

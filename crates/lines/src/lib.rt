@@ -2,44 +2,31 @@
 #![tactic(auto)]
 
 use refusal::Refusal;
+use std::io;
 
-pub fn say(text: &[u8]) {
-    io::write_all(1, text);
+pub fn say(rt: &impl Print, text: &[u8]) -> io::Result<()> {
+    rt.write_all(text)
 }
 
 // A call gives a number.
-pub fn given(value: u64) {
-    say(b": ");
-    io::print_decimal(1, value);
-    say(b"\n");
+pub fn given(rt: &impl Print, value: u64) -> io::Result<()> {
+    println!(rt; ": {value}")
 }
 
-pub fn refused(r: Refusal) {
-    say(b": refusal ");
-    io::print_decimal(1, r.rule);
-    say(b", number ");
-    io::print_decimal(1, r.number);
-    say(b"\n");
+pub fn refused(rt: &impl Print, r: Refusal) -> io::Result<()> {
+    let (rule, number) = (r.rule, r.number);
+    println!(rt; ": refusal {rule}, number {number}")
 }
 
-// A number that may be negative. One is left off and added again, since the lowest number's size is no i64.
-pub fn signed(z: i64) {
-    if z < 0 {
-        say(b"-");
-        let short = (-1 - z) as u64;
-        io::print_decimal(1, short + 1);
-    } else {
-        io::print_decimal(1, z as u64);
-    }
+// A number that may be negative.
+pub fn signed(rt: &impl Print, z: i64) -> io::Result<()> {
+    print!(rt; "{z}")
 }
 
 // Words of memory, on one line.
-pub fn words(list: &[u64]) {
-    let mut i = 0;
-    while i < list.len() {
-        say(b" ");
-        io::print_decimal(1, list[i]);
-        i += 1;
+pub fn words(rt: &impl Print, list: &[u64]) -> io::Result<()> {
+    for word in list {
+        print!(rt; " {word}")?;
     }
-    say(b"\n");
+    println!(rt)
 }
