@@ -3,7 +3,6 @@
 // Read first: specs/Raster.antt; then `write`, which makes the shortest list of a raster, and `fill`, which makes the raster of a list.
 #![tactic(auto)]
 
-
 mod blocks;
 mod listing;
 

@@ -1,8 +1,8 @@
 -- From a block to its quarters, in codes, rows and columns; and which cells are a block's.
-use Rattle.std.specs.Prelude.{◌≡◌, refl, ℕ, zero, suc, ◌+◌, ◌*◌, ◌-◌, ◌%◌, ◌^◌, ◌≤◌, ◌<◌}
+use Rattle.std.specs.Prelude.{◌≡◌, ℕ, suc, ◌+◌, ◌*◌, ◌-◌, ◌^◌, ◌≤◌, ◌<◌}
 use Rattle.std.proofs.Common.{sym, ap, ◌∙◌, subst, arith, pow_pos, pow_mono}
 use Rattle.std.proofs.Math.Nat.{add-mul-mod_self_right, pow-le-pow_right, zero-mod}
-use Rattle.morton.specs.Code.{code, row_of, column_of, interleaved}
+use Rattle.morton.specs.Code.{code, row_of, column_of}
 use Rattle.morton.specs.Power.{highest}
 use Rattle.morton.specs.Block.{Block, Quarters}
 use Rattle.morton.specs.Laws.Power.{exponent_le}

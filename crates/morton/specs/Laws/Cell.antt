@@ -2,7 +2,7 @@
 use Rattle.std.specs.Prelude.{◌≡◌, refl, ℕ, zero, suc, ◌+◌, ◌*◌, ◌-◌, ◌/◌, ◌%◌, ◌^◌, ◌<◌, ◌≤◌}
 use Rattle.std.proofs.Common.{sym, ap, ◌∙◌, arith, pow_mono}
 use Rattle.morton.specs.Code.{interleaved, gathered, code, row_of, column_of}
-use Rattle.morton.specs.Laws.Code.{code_lt, code_enough}
+use Rattle.morton.specs.Laws.Code.{code_enough}
 
 pub gathered-lt : (b k : ℕ) → gathered b k < 2 ^ b
 unfolding gathered

@@ -3,7 +3,7 @@ use Rattle.std.specs.Prelude.{◌≡◌, refl, ◌↔◌, ℕ, zero, suc, ◌+�
 use Rattle.std.proofs.Common.{sym, ap, ap₂, ◌∙◌, mod-lt, sub-add_cancel, div-add-mod', mod-eq_of_lt, arith, pow_pos, pow_mono}
 use Rattle.std.proofs.Math.Nat.{add-mul-div_right, add-mul-mod_self_right, one-le-pow, pow-succ', pow-le-pow_right}
 use Rattle.std.proofs.Math.Arith.{digits_mod, mod-mul}
-use Rattle.morton.specs.Code.{interleaved, spread, code, row_of, column_of}
+use Rattle.morton.specs.Code.{interleaved, code, row_of, column_of}
 use Rattle.morton.specs.Laws.Code.{code_split, code_low, code_injective, code_enough}
 use Rattle.morton.specs.Laws.Cell.{code_of_cell, cell_inside}
 use Rattle.morton.specs.Laws.Spread.{code-spread, spread-mod}

@@ -1,5 +1,5 @@
 -- Blocks are squares: which cells have their codes in one block.
-use Rattle.std.specs.Prelude.{◌≡◌, refl, ℕ, zero, suc, ◌+◌, ◌*◌, ◌-◌, ◌/◌, ◌%◌, ◌^◌, ◌<◌, ◌≤◌}
+use Rattle.std.specs.Prelude.{◌≡◌, ℕ, ◌+◌, ◌*◌, ◌-◌, ◌/◌, ◌%◌, ◌^◌, ◌<◌, ◌≤◌}
 use Rattle.std.proofs.Common.{sym, ap, ap₂, ◌∙◌, sub-add_cancel, div-add-mod', mod-lt, arith, shr_lt}
 use Rattle.std.proofs.Math.Arith.{digits_div}
 use Rattle.morton.specs.Code.{interleaved}

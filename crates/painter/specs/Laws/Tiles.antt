@@ -1,5 +1,5 @@
 -- A tile of a scene, from those of its two maps; and the picture over the block that it is.
-use Rattle.std.specs.Prelude.{◌≡◌, refl, true, ◌&&◌, ◌||◌, ◌⊎◌, List, ℕ, ◌+◌, ◌-◌, ◌%◌, ◌≤◌, eqb, ltb, leb}
+use Rattle.std.specs.Prelude.{◌≡◌, refl, true, ◌&&◌, ◌||◌, List, ℕ, ◌+◌, ◌-◌, ◌%◌, ◌≤◌, eqb, ltb, leb}
 use Rattle.std.proofs.Common.{sym, ap₂, ◌∙◌, subst, ⊎_elim, arith, eqb-true, ltb-true, leb-true}
 use Rattle.morton.specs.Block.{Block}
 use Rattle.tiling.specs.Leaf.{colours}

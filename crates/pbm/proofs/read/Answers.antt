@@ -1,6 +1,6 @@
 -- `pbm::read` meets its contract: at each answer, the tests that led there pick the definition's case.
 use Rattle.pbm.proofs.read.Goals.{In-Of, Else-not-only_cells, After-count, After-area, Else-count-area}
-use Rattle.std.proofs.Common.{true, length, sym, ap, subst, arith, ◌-◌, ◌≤◌, ◌^◌}
+use Rattle.std.proofs.Common.{true, length, sym, ap, subst, arith, ◌≤◌, ◌^◌}
 use Rattle.std.proofs.Math.Path.{◌≡◌, ◌∙◌}
 use Rattle.std.proofs.lemmas.List.Edits.{sets}
 use Rattle.refusal.specs.Answer.{gives}

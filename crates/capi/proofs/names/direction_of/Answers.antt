@@ -1,5 +1,5 @@
 -- `capi::names::direction_of` meets its contract, number by number.
-use Rattle.std.proofs.Common.{◌≤◌, arith}
+use Rattle.std.proofs.Common.{arith}
 use Rattle.capi.specs.Laws.Names.{no_direction}
 use Rattle.capi.proofs.names.direction_of.Goals as goal
 

@@ -9,7 +9,7 @@ use Rattle.morton.specs.Laws.Cell.{gathered-lt}
 use Rattle.tiling.specs.Map.{inside}
 use Rattle.tiling.specs.Laws.Tests.{and_both}
 use Rattle.tiling.specs.Laws.Signed.{held}
-use Rattle.lookups.specs.Neighbour.{is_block, southward, eastward, row_away, column_away}
+use Rattle.lookups.specs.Neighbour.{is_block, row_away, column_away}
 use Rattle.lookups.specs.Laws.Away.{south_once, east_once, once_le}
 use Rattle.lookups.specs.Laws.Ways.{neighbour-size, neighbour_block, neighbour-outside, neighbour_gives}
 use Rattle.lookups.proofs.neighbours.neighbour.Goals as goal

@@ -1,7 +1,7 @@
 -- `lookups::stepped` meets its contract: the sum is small, so nothing is lost.
 use Rattle.lookups.proofs.neighbours.stepped.Goals.{Start}
 use Rattle.std.proofs.Math.Path.{◌≡◌}
-use Rattle.std.proofs.Common.{◌+◌, arith, ℤ, pos}
+use Rattle.std.proofs.Common.{arith, pos}
 use Rattle.std.proofs.Math.IntN.{◌+ℤ◌, ◌*ℤ◌}
 use Rattle.std.specs.Int.{w64}
 use mir.Val.{SFits, to_z, of_z}

@@ -1,6 +1,6 @@
 -- `painter::combine` meets its contract. The loop keeps: the cells before `j` are put together, and those from it on are as they were.
 use Rattle.painter.proofs.operations.combine.Goals.{After-combined}
-use Rattle.std.proofs.Common.{refl, ap, arith, length-set, ℕ, ◌-◌, ◌<◌}
+use Rattle.std.proofs.Common.{refl, ap, arith, length-set, ℕ, ◌<◌}
 use Rattle.std.proofs.Math.Path.{◌∙◌}
 use Rattle.std.proofs.Math.ListN.{get_or}
 use Rattle.tiling.specs.Leaf.{colours}

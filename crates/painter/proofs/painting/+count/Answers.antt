@@ -51,7 +51,6 @@ down : (t : ℕ) (c : After-area-q t) →
     let r = c.shown-seen.result in
     Four a.s a.a.now a.b.now r.a r.b a.k a.y a.x (a.level - 1) c.side-h.result c.area-q.result
 down t c =
-    
     four _ _ _ _ _ _ _ _ _ _ _ (some t (goal.at.After-area-q t c).Else-all-lt-COLOURS) c.area-q.ensures.is c.side-h.ensures.is c.requires.2.scened c.shown-seen.ensures.knows c.requires.2.block
 
 falls-to : (t : ℕ) (c : After-area-q t) → c.args.level - 1 < t

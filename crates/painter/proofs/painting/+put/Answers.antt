@@ -70,7 +70,6 @@ down : (t : ℕ) (c : After-area-q t) →
     let r = c.shown-seen.result in
     Four a.s a.a.now a.b.now r.a r.b a.k a.y a.x (a.level - 1) c.side-h.result (4 ^ (a.level - 1))
 down t c =
-    
     four _ _ _ _ _ _ _ _ _ _ _ (some t (goal.at.After-area-q t c).Else-all-lt-COLOURS) refl c.side-h.ensures.is c.requires.2.counts.scened c.shown-seen.ensures.knows c.requires.2.counts.block
 
 codes : (t : ℕ) (c : After-area-q t) → c.args.k + 4 * c.area-q.result ≤ 4 ^ highest
@@ -184,7 +183,6 @@ all : (t : ℕ) (c : After-put-se t) →
     let a = c.args in
     Ready (scene t (goal.at.After-put-se t c).After-area-q) a.out.now c.put-se.new.out a.at (a.level - 1) a.k c.put-nw.result c.put-ne.result c.put-sw.result c.put-se.result
 all t c =
-    
     ready (scene t (goal.at.After-put-se t c).After-area-q) (bytes t (goal.at.After-put-se t c).After-area-q) _ _ _ _ (placed t (goal.at.After-put-se t c).After-area-q) _ _ _ (wrote₀ t (goal.at.After-put-se t c).After-size) _ _ _ (wrote₁ t (goal.at.After-put-se t c).After-size-2) _ _ _ (wrote₂ t (goal.at.After-put-se t c).After-size-3) _ _ _ (wrote₃ t c)
     (down t (goal.at.After-put-se t c).After-area-q).quarters.codes (omega (arith, block_level _ _ _ _ c.requires.2.counts.block))
 

@@ -1,5 +1,5 @@
 -- `pbm::header::field_at` meets its contract: white space stands before the digits and behind them.
-use Rattle.std.proofs.Common.{sym, ap, ◌-◌, drop}
+use Rattle.std.proofs.Common.{sym, ap, drop}
 use Rattle.std.proofs.Math.Path.{◌∙◌}
 use Rattle.pbm.specs.Laws.Header.{field_past}
 use Rattle.pbm.specs.Reading.{blank}

@@ -1,7 +1,7 @@
 -- `pbm::header::header_of` meets its contract. The height is sought where the width ends. Both are counted to 33 only, which is enough to
 -- tell whether they are equal and a side.
 use Rattle.pbm.proofs.header.header_of.Goals.{In-Of, In-Of-second, After-size_of-n}
-use Rattle.std.proofs.Common.{true, sym, ap, subst, arith, ◌-◌}
+use Rattle.std.proofs.Common.{true, sym, ap, subst, arith}
 use Rattle.std.proofs.Math.Path.{◌≡◌, ◌∙◌}
 use Rattle.pbm.specs.Reading.{blank, is_field, field, past_field, at_width, at_height, size, size_of_side, past_blank}
 use Rattle.pbm.specs.Steps.{Past, capped, Fielded}

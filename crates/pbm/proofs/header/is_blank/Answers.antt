@@ -1,6 +1,6 @@
 -- `pbm::header::is_blank` meets its contract: it looks at the byte, if there is one.
 use Rattle.std.proofs.Math.Bool.{◌||◌}
-use Rattle.std.proofs.Common.{sym, ap, ◌-◌, eqb}
+use Rattle.std.proofs.Common.{sym, ap, eqb}
 use Rattle.std.proofs.Math.Path.{◌∙◌}
 use Rattle.std.proofs.Math.ListN.{get_or}
 use Rattle.pbm.specs.Bytes.{hash}

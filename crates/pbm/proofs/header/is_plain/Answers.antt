@@ -1,5 +1,5 @@
 -- `pbm::header::is_plain` meets its contract: a text of fewer than two bytes does not begin with `P1`.
-use Rattle.std.proofs.Common.{sym, ◌-◌}
+use Rattle.std.proofs.Common.{sym}
 use Rattle.pbm.specs.Laws.Header.{short_plain, plain}
 use Rattle.pbm.proofs.header.is_plain.Goals as goal
 

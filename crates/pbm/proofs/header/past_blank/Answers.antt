@@ -1,5 +1,5 @@
 -- `pbm::header::past_blank` meets its contract: there is a byte, and it begins a comment or is white space.
-use Rattle.std.proofs.Common.{sym, arith, ◌-◌}
+use Rattle.std.proofs.Common.{sym, arith}
 use Rattle.std.proofs.Math.Path.{◌∙◌}
 use borrow.Author.Tests.{eq-eqb, ne_eqb}
 use Rattle.pbm.specs.Laws.Text.{blank-within, blank_comment, blank-space}

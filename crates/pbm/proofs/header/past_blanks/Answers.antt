@@ -1,5 +1,5 @@
 -- `pbm::header::past_blanks` meets its contract. The loop keeps: what follows the white space is what follows it from i on.
-use Rattle.std.proofs.Common.{false, refl, sym, ap, arith, ◌-◌}
+use Rattle.std.proofs.Common.{false, refl, sym, ap, arith}
 use Rattle.std.proofs.Math.Path.{◌∙◌}
 use borrow.Author.Tests.{eq-eqb, ne_eqb}
 use Rattle.pbm.specs.Laws.Text.{blanks_space, blanks_comment, blanks_other, blanks_end}

@@ -1,5 +1,5 @@
 -- `pbm::header::past_comment` meets its contract. The loop keeps: what follows the comment is what follows it from i on.
-use Rattle.std.proofs.Common.{refl, sym, arith, ◌-◌}
+use Rattle.std.proofs.Common.{refl, sym, arith}
 use Rattle.std.proofs.Math.Path.{◌∙◌}
 use Rattle.pbm.specs.Laws.Text.{comment_last, comment_more, comment_end}
 use Rattle.pbm.proofs.header.past_comment.Goals as goal

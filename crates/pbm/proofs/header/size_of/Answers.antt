@@ -1,5 +1,5 @@
 -- `pbm::header::size_of` meets its contract: each side that is named is a power of two, and no other side is.
-use Rattle.std.proofs.Common.{sym, ◌-◌, rules}
+use Rattle.std.proofs.Common.{sym, rules}
 use Rattle.pbm.specs.Laws.Header.{no_side}
 use Rattle.pbm.specs.Reading.{size_from}
 use Rattle.pbm.proofs.header.size_of.Goals as goal

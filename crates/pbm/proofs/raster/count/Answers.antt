@@ -1,6 +1,5 @@
 -- `pbm::raster::count` meets its contract. The loop keeps: the cells counted and those from i on are all.
-use Rattle.std.proofs.Math.Logic.{⊎_elim}
-use Rattle.std.proofs.Common.{sym, ap, arith, ◌-◌, length}
+use Rattle.std.proofs.Common.{sym, ap, arith, length}
 use Rattle.std.proofs.Math.Path.{◌∙◌}
 use Rattle.pbm.specs.Laws.Text.{cells-end, cells-space, cells_more}
 use Rattle.pbm.proofs.raster.count.Goals.{then-not-is_space, else-not-is_space}
@@ -25,12 +24,12 @@ loop-i-preserved c =
     let h = c.loop-i-test.true in
     let s = sym c.is_space.ensures in
     elim c.if-not-is_space.branch [
-      then-not-is_space w ↦
-        let e = ap length (cells_more t k.i h (s ∙ w.if-not-is_space.true)) in
-        (omega arith, omega arith, omega arith)
-    | else-not-is_space w ↦
-        let e = ap length (cells-space t k.i h (s ∙ w.if-not-is_space.false)) in
-        (omega arith, omega arith, omega arith)
+      | then-not-is_space w ↦
+          let e = ap length (cells_more t k.i h (s ∙ w.if-not-is_space.true)) in
+          (omega arith, omega arith, omega arith)
+      | else-not-is_space w ↦
+          let e = ap length (cells-space t k.i h (s ∙ w.if-not-is_space.false)) in
+          (omega arith, omega arith, omega arith)
     ]
 
 pub returns : goal.returns

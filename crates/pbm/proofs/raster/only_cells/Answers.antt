@@ -1,6 +1,6 @@
 -- `pbm::raster::only_cells` meets its contract. The loop keeps: whether only cells follow is whether only cells follow from i on.
 use Rattle.std.proofs.Math.Bool.{◌||◌}
-use Rattle.std.proofs.Common.{ap₂, sym, arith, refl, ◌-◌}
+use Rattle.std.proofs.Common.{ap₂, sym, arith, refl}
 use Rattle.std.proofs.Math.Path.{◌∙◌}
 use Rattle.pbm.specs.Laws.Text.{only_end, only_more, only_none}
 use Rattle.pbm.proofs.raster.only_cells.Goals as goal

@@ -1,6 +1,5 @@
 -- `pbm::raster::put` meets its contract. The loop keeps: with the cells from i on stored from k on, the memory is as it is to be.
-use Rattle.std.proofs.Math.Logic.{⊎_elim}
-use Rattle.std.proofs.Common.{true, refl, length, sym, ap, add-one, arith, length-set, ◌-◌}
+use Rattle.std.proofs.Common.{refl, length, sym, ap, add-one, arith, length-set}
 use Rattle.std.proofs.Math.Path.{◌∙◌}
 use Rattle.pbm.specs.Laws.Text.{cells-end, cells-space, cells_more, only_rest, cell_here}
 use Rattle.pbm.proofs.raster.put.Goals.{then-not-is_space, else-not-is_space}
@@ -36,13 +35,13 @@ loop-i-preserved c =
     let s = sym c.is_space.ensures in
     let o = only_rest t k.i h k.invariant.2 in
     elim c.if-not-is_space.branch [
-      then-not-is_space w ↦
-        let e = cells_more t k.i h (s ∙ w.if-not-is_space.true) in
-        let l = ap length e in
-        (omega arith, ap length w.out-is ∙ simp length-set k.invariant.1, o, omega arith, rw (w.out-is, w.k-is, add-one) (rw e at k.invariant.4))
-    | else-not-is_space w ↦
-        let e = cells-space t k.i h (s ∙ w.if-not-is_space.false) in
-        (omega arith, ap length w.out-is ∙ k.invariant.1, o, omega (arith, ap length e), rw (w.out-is, w.k-is, ← e) k.invariant.4)
+      | then-not-is_space w ↦
+          let e = cells_more t k.i h (s ∙ w.if-not-is_space.true) in
+          let l = ap length e in
+          (omega arith, ap length w.out-is ∙ simp length-set k.invariant.1, o, omega arith, rw (w.out-is, w.k-is, add-one) (rw e at k.invariant.4))
+      | else-not-is_space w ↦
+          let e = cells-space t k.i h (s ∙ w.if-not-is_space.false) in
+          (omega arith, ap length w.out-is ∙ k.invariant.1, o, omega (arith, ap length e), rw (w.out-is, w.k-is, ← e) k.invariant.4)
     ]
 
 pub shape_of-out : goal.shape_of-out

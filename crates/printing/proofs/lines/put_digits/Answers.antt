@@ -1,5 +1,5 @@
 -- `printing::lines::put_digits` meets its contract. The loop keeps: with the digits of rest stored before place i, the memory is as it is to be.
-use Rattle.std.proofs.Common.{refl, sym, mod-lt, arith, length-set, ◌-◌, ◌<◌}
+use Rattle.std.proofs.Common.{refl, sym, mod-lt, arith, length-set, ◌<◌}
 use Rattle.std.proofs.Math.Path.{◌∙◌}
 use Rattle.printing.specs.Laws.Lines.{sets_digit, sets_none}
 use Rattle.printing.proofs.lines.put_digits.Goals as goal

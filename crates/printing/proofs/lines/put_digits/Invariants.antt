@@ -1,6 +1,6 @@
 -- `printing::lines::put_digits` meets its contract. The loop keeps: with the digits of rest stored before place i, the memory is as it is to be.
 use Rattle.std.proofs.Math.Path.{◌≡◌}
-use Rattle.std.proofs.Common.{◌-◌, ◌≤◌, length}
+use Rattle.std.proofs.Common.{◌≤◌, length}
 use Rattle.std.proofs.lemmas.List.Edits.{sets}
 use Rattle.printing.specs.Lines.{digits}
 use Rattle.printing.proofs.lines.put_digits.Given as goal

@@ -1,6 +1,6 @@
 -- `printing::lines::put_line` meets its contract: three numerals, each where the one before it ends.
 use Rattle.printing.proofs.lines.put_line.Goals.{After-put_numeral-second, After-put_numeral-third}
-use Rattle.std.proofs.Common.{◌+◌, ◌-◌, ◌≤◌, arith}
+use Rattle.std.proofs.Common.{◌+◌, ◌≤◌, arith}
 use Rattle.printing.specs.Lines.{line, numeral, code_digits, decimals}
 use Rattle.printing.specs.Laws.Lines.{numeral-length, few_decimals, few_digits, three}
 use Rattle.tiling.specs.Leaf.{code_of, level_of, colour_of}

@@ -1,6 +1,6 @@
 -- `printing::lines::put_lines` meets its contract. The loop keeps: with the lines of the leaves from i on stored from `at` on, the memory is as it
 -- is to be.
-use Rattle.std.proofs.Common.{refl, length, drop, sym, ap, arith, length-append, ◌+◌, ◌-◌}
+use Rattle.std.proofs.Common.{refl, length, drop, sym, ap, arith, length-append, ◌+◌}
 use Rattle.std.proofs.Math.Path.{◌∙◌}
 use Rattle.std.proofs.Math.ListN.{get_or}
 use Rattle.std.proofs.lemmas.List.Edits.{sets}

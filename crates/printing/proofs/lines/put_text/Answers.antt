@@ -1,5 +1,5 @@
 -- `printing::lines::put_text` meets its contract. The loop keeps: with the bytes from i on stored, the memory is as it is to be.
-use Rattle.std.proofs.Common.{refl, ◌-◌, add-one, arith, drop-cons, length-set}
+use Rattle.std.proofs.Common.{refl, add-one, arith, drop-cons, length-set}
 use Rattle.std.proofs.Math.Path.{◌∙◌}
 use Rattle.std.proofs.Math.ListN.{drop_of_length-le}
 use Rattle.shortest.specs.Laws.Stores.{sets_front}

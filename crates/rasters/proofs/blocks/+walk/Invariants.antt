@@ -1,6 +1,5 @@
 -- `rasters::walk` meets its contract, by recursion over the level: a block that its first leaf covers has the leaf's colour; of any other but a
 -- tile the quarters are filled one after another. It ends since the level falls.
-use Rattle.std.proofs.Common.{◌-◌}
 use Rattle.rasters.proofs.blocks.+walk.Given as goal
 
 abbrev pub decreases-walk : goal.decreases-walk

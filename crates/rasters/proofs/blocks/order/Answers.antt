@@ -1,5 +1,5 @@
 -- `rasters::order` meets its contract. The loop keeps: the codes of the cells before `j` are there.
-use Rattle.std.proofs.Common.{refl, ◌-◌, arith, length-set}
+use Rattle.std.proofs.Common.{refl, arith, length-set}
 use Rattle.tiles.specs.Laws.Store.{stored_none, stored_more}
 use Rattle.rasters.specs.Laws.Blocks.{order_small}
 use Rattle.rasters.proofs.blocks.order.Goals as goal

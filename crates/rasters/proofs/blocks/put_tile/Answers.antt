@@ -1,7 +1,7 @@
 -- `rasters::put_tile` meets its contract. The loop keeps: the rows before `row` are stored, and the next begins at `place`.
 use Rattle.rasters.proofs.blocks.put_tile.Goals.{After-side-width}
 use Rattle.std.proofs.Math.Path.{◌≡◌, ◌∙◌}
-use Rattle.std.proofs.Common.{refl, ◌+◌, ◌*◌, ◌-◌, ◌^◌, arith}
+use Rattle.std.proofs.Common.{refl, ◌+◌, ◌*◌, ◌^◌, arith}
 use Rattle.rasters.specs.Blocks.{tile_cell}
 use Rattle.rasters.specs.Laws.Blocks.{rows_none, rows_more, row_fits, row_small, next_row, tile_row}
 use Rattle.rasters.proofs.blocks.put_tile.Goals as goal

@@ -1,7 +1,7 @@
 -- `rasters::square` meets its contract. The loop keeps: the rows before `row` are filled, and the next begins at `place`.
 use Rattle.rasters.proofs.blocks.square.Goals.{After-side-side, In-loop-row}
 use Rattle.std.proofs.Math.Path.{◌≡◌, ◌∙◌}
-use Rattle.std.proofs.Common.{refl, ap, arith, ℕ, ◌+◌, ◌*◌, ◌-◌, ◌^◌, ◌≤◌}
+use Rattle.std.proofs.Common.{refl, ap, arith, ℕ, ◌+◌, ◌*◌, ◌^◌, ◌≤◌}
 use Rattle.rasters.specs.Blocks.{alone}
 use Rattle.morton.specs.Laws.Power.{exponent_le}
 use Rattle.rasters.specs.Laws.Blocks.{rows_none, rows_more, row_fits, row_small, next_row}

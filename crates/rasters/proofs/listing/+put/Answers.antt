@@ -193,7 +193,6 @@ all : (t : ℕ) (c : After-put-se t) →
     let a = c.args in
     Ready (picture t (goal.at.After-put-se t c).After-area-area) a.out.now c.put-se.new.out a.at (a.level - 1) a.code c.put-nw.result c.put-ne.result c.put-sw.result c.put-se.result
 all t c =
-    
     ready (picture t (goal.at.After-put-se t c).After-area-area) (bytes t (goal.at.After-put-se t c).After-area-area) _ _ _ _ (placed t (goal.at.After-put-se t c).After-area-area) _ _ _ (wrote₀ t (goal.at.After-put-se t c).After-size) _ _ _ (wrote₁ t (goal.at.After-put-se t c).After-size-2) _ _ _ (wrote₂ t (goal.at.After-put-se t c).After-size-3) _ _ _ (wrote₃ t c)
     (down t (goal.at.After-put-se t c).After-area-area).quarters.codes (omega (arith, block_level _ _ _ _ c.requires.counts.block))
 

@@ -1,7 +1,7 @@
 -- `rasters::count_cells` meets its contract: a cell's part is its colour, and the four are the quarters of their block.
 use Rattle.rasters.proofs.listing.count_cells.Goals.{Start, After-cell-se}
 use Rattle.std.proofs.Math.Path.{◌≡◌, ◌∙◌}
-use Rattle.std.proofs.Common.{refl, sym, ap, arith, ℕ, ◌+◌, ◌*◌, ◌-◌, ◌<◌}
+use Rattle.std.proofs.Common.{refl, sym, ap, arith, ℕ, ◌+◌, ◌*◌, ◌<◌}
 use Rattle.morton.specs.Code.{code}
 use Rattle.tiling.specs.Leaf.{colours}
 use Rattle.shortest.specs.Part.{part}

@@ -1,7 +1,7 @@
 -- `rasters::count_squares` meets its contract: the four squares of four cells are the quarters of their block.
 use Rattle.rasters.proofs.listing.count_squares.Goals.{Start, After-count_cells-se}
 use Rattle.std.proofs.Math.Path.{◌≡◌, ◌∙◌}
-use Rattle.std.proofs.Common.{refl, sym, ap, arith, ℕ, ◌+◌, ◌*◌, ◌-◌, ◌<◌}
+use Rattle.std.proofs.Common.{refl, sym, ap, arith, ℕ, ◌+◌, ◌*◌, ◌<◌}
 use Rattle.morton.specs.Code.{code}
 use Rattle.tiling.specs.Leaf.{colours}
 use Rattle.shortest.specs.Part.{part}

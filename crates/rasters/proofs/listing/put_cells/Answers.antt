@@ -40,7 +40,6 @@ all : (c : After-cell-se) →
     let a = c.args in
     Ready (pixel a.n a.cells.now) a.out.now a.out.now a.at 0 a.code c.cell-nw.result c.cell-ne.result c.cell-sw.result c.cell-se.result
 all c =
-    
     let a = c.args in
     let o = a.out.now in
     let d = down (goal.at.After-cell-se c).Start in

@@ -98,7 +98,6 @@ all : (c : After-put_cells-se) →
     let a = c.args in
     Ready (picture (goal.at.After-put_cells-se c).After-slice_known-1) a.out.now c.put_cells-se.new.out a.at 1 a.code c.put_cells-nw.result c.put_cells-ne.result c.put_cells-sw.result c.put_cells-se.result
 all c =
-    
     ready (picture (goal.at.After-put_cells-se c).After-slice_known-1) (bytes (goal.at.After-put_cells-se c).After-slice_known-1) _ _ 1 _ (placed (goal.at.After-put_cells-se c).After-slice_known-1) _ _ _ (wrote₀ (goal.at.After-put_cells-se c).After-size) _ _ _ (wrote₁ (goal.at.After-put_cells-se c).After-size-2) _ _ _ (wrote₂ (goal.at.After-put_cells-se c).After-size-3) _ _ _ (wrote₃ c)
     (down (goal.at.After-put_cells-se c).After-slice_known-1).quarters.codes (omega arith)
 
