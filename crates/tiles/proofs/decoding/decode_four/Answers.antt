@@ -1,5 +1,4 @@
 -- `tiles::decode_four` meets its contract: the four blocks are those of a square of 1,024 cells, in the order of their codes.
-use Rattle.std.proofs.Common.{◌-◌}
 use Rattle.probe.specs.Biased.{cell_about}
 use Rattle.tiles.specs.Laws.Tiles.{four_tile}
 use Rattle.tiles.proofs.decoding.decode_four.Goals as goal

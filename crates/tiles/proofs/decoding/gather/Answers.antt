@@ -1,5 +1,5 @@
 -- `tiles::gather` meets its contract. The loop keeps: the cells before `j` are taken.
-use Rattle.std.proofs.Common.{refl, ◌-◌, arith, length-set}
+use Rattle.std.proofs.Common.{refl, arith, length-set}
 use Rattle.tiles.specs.Laws.Store.{stored_none, stored_more}
 use Rattle.tiles.proofs.decoding.gather.Goals as goal
 

@@ -1,5 +1,5 @@
 -- `tiles::run` meets its contract: one cell, or as many as there are.
-use Rattle.std.proofs.Common.{refl, ◌-◌, arith}
+use Rattle.std.proofs.Common.{refl, arith}
 use Rattle.tiles.specs.Tile.{plain}
 use Rattle.tiles.specs.Laws.Store.{stored_none, stored_more}
 use Rattle.tiles.proofs.decoding.run.Goals as goal

@@ -1,7 +1,7 @@
 -- `tiles::steps` meets its contract. The loop keeps: the steps before `j` are there.
 use Rattle.tiles.proofs.decoding.steps.Goals.{After-code_of-step}
 use Rattle.std.proofs.Math.Path.{◌≡◌, ◌∙◌}
-use Rattle.std.proofs.Common.{refl, ap₂, arith, length-set, ℕ, ◌+◌, ◌-◌, ◌<◌}
+use Rattle.std.proofs.Common.{refl, ap₂, arith, length-set, ℕ, ◌+◌, ◌<◌}
 use Rattle.morton.specs.Code.{code}
 use Rattle.tiles.specs.Tile.{step_to}
 use Rattle.tiles.specs.Laws.Codes.{tile_cell_lem, step_small}
@@ -25,7 +25,6 @@ code_of-step-requires c =
 -- the step, which is small
 step : (c : After-code_of-step) → let a = c.args in (c.code_of-step.result ≡ step_to a.row a.column c.loop-j.j) × (c.code_of-step.result < 1024)
 step c =
-    
     let e : c.code_of-step.result ≡ step_to c.args.row c.args.column c.loop-j.j = c.code_of-step.ensures ∙ ap₂ (λ (x y : ℕ). code (c.args.row + x) (c.args.column + y)) c.row_of.ensures c.column_of.ensures in
     (e, omega (arith, e, step_small c.args.row c.args.column c.loop-j.j c.requires.1 c.requires.2 (omega arith)))
 

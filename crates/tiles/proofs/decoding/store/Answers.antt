@@ -1,7 +1,7 @@
 -- `tiles::store` meets its contract. The loop keeps: the colour stands at the places from the first on and before `i`, and
 -- every other place is as it was.
 use Rattle.std.proofs.Math.Path.{◌≡◌}
-use Rattle.std.proofs.Common.{refl, length, ◌-◌, ◌<◌, arith, length-set}
+use Rattle.std.proofs.Common.{refl, length, ◌<◌, arith, length-set}
 use Rattle.tiles.specs.Laws.Store.{stored_none, stored_more}
 use Rattle.tiles.proofs.decoding.store.Goals as goal
 

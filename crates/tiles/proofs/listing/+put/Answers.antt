@@ -164,7 +164,6 @@ all : (t : ℕ) (c : After-put-se t) →
     let a = c.args in
     Ready (scene t (goal.at.After-put-se t c).After-area-q) a.out.now c.put-se.new.out a.at (a.level - 1) a.k c.put-nw.result c.put-ne.result c.put-sw.result c.put-se.result
 all t c =
-    
     ready (scene t (goal.at.After-put-se t c).After-area-q) (bytes t (goal.at.After-put-se t c).After-area-q) _ _ _ _ (placed t (goal.at.After-put-se t c).After-area-q) _ _ _ (wrote₀ t (goal.at.After-put-se t c).After-size) _ _ _ (wrote₁ t (goal.at.After-put-se t c).After-size-2) _ _ _ (wrote₂ t (goal.at.After-put-se t c).After-size-3) _ _ _ (wrote₃ t c)
     (down t (goal.at.After-put-se t c).After-area-q).codes (omega (arith, low _ _ _ c.requires.1.counts))
 

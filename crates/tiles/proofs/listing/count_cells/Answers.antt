@@ -1,7 +1,7 @@
 -- `tiles::count_cells` meets its contract: a cell's part is its colour, and the four are the quarters of their block.
 use Rattle.tiles.proofs.listing.count_cells.Goals.{After-cell-se}
 use Rattle.std.proofs.Math.Path.{◌≡◌, ◌∙◌}
-use Rattle.std.proofs.Common.{sym, arith, ℕ, ◌+◌, ◌*◌, ◌-◌, ◌<◌}
+use Rattle.std.proofs.Common.{sym, arith, ℕ, ◌+◌, ◌*◌, ◌<◌}
 use Rattle.tiling.specs.Leaf.{colours}
 use Rattle.shortest.specs.Part.{part}
 use Rattle.shortest.proofs.Part.{part_cell}

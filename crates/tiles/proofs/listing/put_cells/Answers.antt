@@ -1,7 +1,7 @@
 -- `tiles::put_cells` meets its contract: the four cells write nothing by themselves, and `finish` stores them unless they merge.
 use Rattle.tiles.proofs.listing.put_cells.Goals.{After-cell-se}
 use Rattle.std.proofs.Math.Path.{◌∙◌}
-use Rattle.std.proofs.Common.{◌-◌, arith}
+use Rattle.std.proofs.Common.{arith}
 use Rattle.shortest.specs.Laws.Quarters.{Ready}
 use Rattle.shortest.proofs.Quarters.{ready}
 use Rattle.tiles.specs.Listing.{spots}
@@ -12,7 +12,6 @@ all : (c : After-cell-se) →
     let a = c.args in
     Ready (spots a.tile.now a.first) a.out.now a.out.now a.at 0 a.k c.cell-nw.result c.cell-ne.result c.cell-sw.result c.cell-se.result
 all c =
-    
     let a = c.args in
     let o = a.out.now in
     let f = spots a.tile.now a.first in
