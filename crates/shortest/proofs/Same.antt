@@ -1,9 +1,7 @@
 -- What a block comes to depends on the picture over that block alone.
-use Rattle.std.specs.Prelude.{◌≡◌, Bool, List, ◌∷◌, []}
+use Rattle.std.proofs.Common.{◌≡◌, Bool, List, ◌∷◌, [], ◌∙◌, arith, ℕ, zero, suc, ◌+◌, ◌*◌, ◌^◌, ◌≤◌}
 use Rattle.std.proofs.Math.Path.{refl, sym, ap}
-use Rattle.std.proofs.Common.{◌∙◌, arith}
 use Rattle.std.proofs.Math.Bool.{true, false}
-use Prim.Native.Nat.{ℕ, zero, suc, ◌+◌, ◌*◌, ◌^◌, ◌≤◌}
 use Rattle.std.proofs.Math.Dec.{eqb}
 use Rattle.tiling.specs.Leaf.{leaf}
 use Rattle.shortest.specs.Shortest.{all, uniform, shortest}

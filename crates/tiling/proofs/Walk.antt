@@ -1,11 +1,8 @@
 -- One turn of the check's walk over a list.
-use mathlib.Core.Path.{◌≡◌}
-use mathlib.Core.Bool.{false}
-use mathlib.Core.List.{List}
-use Prim.Native.Nat.{ℕ, ◌+◌, ◌^◌, ◌<◌, ◌≤◌}
-use native.Mathlib.Numerals.{add-one}
-use lib.ListN.{length, get_or, drop, drop_of_length-le}
-use lib.Seq.{drop-cons}
+use Rattle.std.proofs.Math.Path.{◌≡◌}
+use Rattle.std.proofs.Common.{false, List, length, drop, ℕ, ◌+◌, ◌^◌, ◌<◌, ◌≤◌, add-one}
+use Rattle.std.proofs.Math.ListN.{get_or, drop_of_length-le}
+use Rattle.std.proofs.Math.Seq.{drop-cons}
 use borrow.Author.Tests.{eq-eqb, ne_eqb}
 use Rattle.tiling.specs.Leaf.{end_of}
 use Rattle.tiling.specs.WellFormed.{Right}

@@ -1,7 +1,6 @@
 -- `morton::gather` meets its contract, by recursion over the digits: the lowest, and those above it gathered. It ends since there are
 -- fewer digits at each call.
-use Prim.Native.Nat.{ℕ, ◌≤◌, ◌-◌, ◌/◌, ◌^◌}
-use Rattle.std.proofs.Common.{arith}
+use Rattle.std.proofs.Common.{ℕ, ◌≤◌, ◌-◌, ◌/◌, ◌^◌, arith}
 use Rattle.std.proofs.Math.Pow.{pow_mono}
 use Rattle.morton.specs.Code.{bits}
 use Rattle.morton.specs.Laws.Cell.{gathered-lt, gathered_none, gathered_step}

@@ -1,7 +1,6 @@
 -- `morton::area` meets its contract: 1 shifted by twice the level is 4 to the level.
 use Rattle.std.proofs.Math.Path.{◌∙◌}
-use Prim.Native.Nat.{◌*◌}
-use Rattle.std.proofs.Common.{arith}
+use Rattle.std.proofs.Common.{◌*◌, arith}
 use Rattle.morton.specs.Laws.Power.{power, shifted, two_four}
 use Rattle.morton.proofs.area.Goals as goal
 

@@ -1,6 +1,5 @@
 -- `morton::spread_bits` meets its contract: a number is spread byte by byte.
-use Prim.Native.Nat.{◌/◌, ◌%◌}
-use Rattle.std.proofs.Common.{arith}
+use Rattle.std.proofs.Common.{◌/◌, ◌%◌, arith}
 use Rattle.morton.specs.Laws.Spread.{spread-lt, spread_split, spread-mod}
 use Rattle.morton.proofs.spread_bits.Goals as goal
 

@@ -1,8 +1,7 @@
 -- `printing::leaves` meets its contract: the cells that were read are the raster whose list is written, and its lines are those of that list.
 use Rattle.printing.proofs.leaves.Goals.{In-Size, After-area-whole, After-write-count}
 use Rattle.std.proofs.Math.Path.{◌≡◌, ◌∙◌}
-use Rattle.std.proofs.Common.{sym, ap, arith, length-take-le, ◌≤◌, ◌^◌, take, length, drop}
-use mathlib.Core.List.{◌++◌}
+use Rattle.std.proofs.Common.{sym, ap, arith, length-take-le, ◌≤◌, ◌^◌, take, length, drop, ◌++◌}
 use Rattle.rasters.specs.Raster.{pixel}
 use Rattle.printing.specs.Lines.{printed_of, lines}
 use Rattle.refusal.specs.Answer.{gives}

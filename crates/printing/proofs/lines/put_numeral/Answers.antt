@@ -1,6 +1,5 @@
 -- `printing::lines::put_numeral` meets its contract: the digits are stored, and the byte behind them.
-use mathlib.Core.List.{◌∷◌, []}
-use Rattle.std.proofs.Common.{ap, arith, length-append, ◌+◌, set}
+use Rattle.std.proofs.Common.{◌∷◌, [], ap, arith, length-append, ◌+◌, set}
 use Rattle.std.proofs.Math.Path.{◌∙◌}
 use Rattle.printing.specs.Laws.Lines.{digits-length}
 use Rattle.shortest.specs.Laws.Stores.{sets-append}
