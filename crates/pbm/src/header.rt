@@ -157,6 +157,7 @@ fn is_plain(text: &[u8]) -> bool
 }
 
 // The header of a text.
+#[tactic(auto, using(crate::specs::Laws::Header::no_square))]
 pub fn header_of(text: &[u8]) -> Header
     ensures { Headed text.now result }
 {

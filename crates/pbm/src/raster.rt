@@ -40,6 +40,7 @@ pub fn count(text: &[u8], at: usize) -> u64
 }
 
 // Writes the cells that follow, one byte each.
+#[tactic(auto, using(crate::specs::Laws::Text::cell_here))]
 pub fn put(text: &[u8], at: usize, out: &mut [u8])
     requires at_in_bounds { at ≤ length text.now }
     requires text_value { only_cells (drop at text.now) ≡ true }

@@ -1,16 +1,10 @@
 -- `overlays::scene` meets its contract: each field is the number that stands for a row or a column.
-use Rattle.std.proofs.Common.{ap, ap₂, arith}
+use Rattle.std.proofs.Common.{ap, ap₂}
 use Rattle.std.proofs.Math.Path.{◌∙◌}
 use Rattle.std.proofs.Math.IntN.{◌-ℤ◌}
 use Rattle.probe.specs.Biased.{biased}
 use Rattle.overlays.specs.Laws.Scenes.{near_back, scene_is}
 use Rattle.overlays.proofs.scene.Goals as goal
-
-pub biased-requires : goal.biased-requires
-biased-requires c = rw (near_back c.args.window.wy c.requires.wy_near) (omega (arith, c.requires.wy_near))
-
-pub biased-requires-2 : goal.biased-requires-2
-biased-requires-2 c = rw (near_back c.args.window.wx c.requires.wx_near) (omega (arith, c.requires.wx_near))
 
 pub returns : goal.returns
 returns c =

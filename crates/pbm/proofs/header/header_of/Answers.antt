@@ -6,7 +6,7 @@ use Rattle.std.proofs.Math.Path.{◌≡◌, ◌∙◌}
 use Rattle.pbm.specs.Reading.{blank, is_field, field, past_field, at_width, at_height, size, size_of_side, past_blank}
 use Rattle.pbm.specs.Steps.{Past, capped, Fielded}
 use Rattle.pbm.specs.declared.header.Field.TheVariants.{Of}
-use Rattle.pbm.specs.Laws.Header.{plain_two, no_plain, no_width, no_height, no_size, no_square, all-header, size-capped, has_size, same_number}
+use Rattle.pbm.specs.Laws.Header.{plain_two, no_plain, no_width, no_height, no_size, all-header, size-capped, has_size, same_number}
 use Rattle.tiling.specs.Laws.Tests.{and_both}
 use Rattle.pbm.proofs.header.header_of.Goals as goal
 
@@ -48,9 +48,6 @@ sized c =
 pub returns-then-n-eq-SIZES : goal.returns-then-n-eq-SIZES
 returns-then-n-eq-SIZES c = no_size _ (sym (sized (goal.at.returns-then-n-eq-SIZES c).After-size_of-n) ∙ c.if-n-eq-SIZES.true)
 
-pub returns-then-height-width : goal.returns-then-height-width
-returns-then-height-width c = no_square _ (λ e. c.if-height-width.true ((high (goal.at.returns-then-height-width c).In-Of-second).1 ∙ ap capped e ∙ sym (wide (goal.at.returns-then-height-width c).In-Of).1))
-
 pub past_blank-requires : goal.past_blank-requires
 past_blank-requires c =
     let h = high (goal.at.past_blank-requires c).In-Of-second in
@@ -64,7 +61,7 @@ returns c =
     let s = sized (goal.at.returns c).After-size_of-n in
     let p = c.past_blank.ensures in
     let z = has_size (field (at_width t)) (λ e. c.if-n-eq-SIZES.false (s ∙ e)) in (
-      all-header t (sym c.is_plain.ensures ∙ c.if-not-is_plain.false) w.0 h.0 z.0 (same_number (field (at_height t)) (field (at_width t)) (sym h.1 ∙ c.if-height-width.false ∙ w.1) z.1),
+      all-header t (sym c.is_plain.ensures ∙ c.if-not-is_plain.false) w.0 h.0 z.0 (same_number (field (at_height t)) (field (at_width t)) (omega (arith, h.1, w.1)) z.1),
       s,
       record { onward = omega arith; within = p.within; is = p.is ∙ ap past_blank h.2.is },
     )

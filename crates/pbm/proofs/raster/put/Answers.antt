@@ -1,15 +1,12 @@
 -- `pbm::raster::put` meets its contract. The loop keeps: with the cells from i on stored from k on, the memory is as it is to be.
 use Rattle.std.proofs.Common.{refl, length, sym, ap, add-one, arith, length-set}
 use Rattle.std.proofs.Math.Path.{◌∙◌}
-use Rattle.pbm.specs.Laws.Text.{cells-end, cells-space, cells_more, only_rest, cell_here}
+use Rattle.pbm.specs.Laws.Text.{cells-end, cells-space, cells_more, only_rest}
 use Rattle.pbm.proofs.raster.put.Goals.{then-not-is_space, else-not-is_space}
 use Rattle.pbm.proofs.raster.put.Goals as goal
 
 pub loop-i-init : goal.loop-i-init
 loop-i-init c = (omega arith, refl, c.requires.text_value, omega (arith, c.requires.text_in_bounds), refl)
-
-pub overflow_sub-out : goal.overflow_sub-out
-overflow_sub-out c = cell_here _ _ c.loop-i-test.true c.loop-i.invariant.2 (sym c.is_space.ensures ∙ c.if-not-is_space.true)
 
 pub bounds-out-k : goal.bounds-out-k
 bounds-out-k c =
