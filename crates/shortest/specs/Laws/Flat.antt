@@ -1,4 +1,4 @@
--- `all` and `uniform` as tests of a fact: every code of the block has the colour.
+-- The fact that every code of a block has one colour.
 use Rattle.std.specs.Prelude.{◌≡◌, ℕ, suc, ◌+◌, ◌*◌, ◌^◌, ◌≤◌, ◌<◌}
 use Rattle.std.proofs.Common.{le_refl, arith}
 use Rattle.std.proofs.Math.Decide.{dec_lt}

@@ -1,4 +1,4 @@
--- What follows from a list's being the shortest, and from what comes of a call: of no room, of the only shortest list, of the memory.
+-- What follows from a list's being the shortest, and from what comes of a call: of no room, of the memory.
 use Rattle.std.specs.Prelude.{◌≡◌, refl, List, [], ◌∷◌, ◌++◌, ℕ, ◌<◌, ◌≤◌, length, drop}
 use Rattle.std.proofs.Common.{ap, ◌∙◌, arith}
 use Rattle.refusal.specs.Rules as rule

@@ -1,4 +1,4 @@
--- `lookups::is_block_lem` meets its contract: the level is tested before its power is taken.
+-- `lookups::is_block` meets its contract: the level is tested before its power is taken.
 use Rattle.std.proofs.lemmas.Bool.{lt-leb}
 use Rattle.std.proofs.Common.{le-leb}
 use Rattle.lookups.proofs.neighbours.is_block.Goals as goal
