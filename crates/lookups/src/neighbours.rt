@@ -72,6 +72,7 @@ fn is_block(n: u64, code: u64, level: u64) -> bool
 }
 
 // The code of the block of the same level one side away, in a square of size n.
+#[tactic(auto, unfolding(crate::specs::Neighbour::neighbour))]
 pub fn neighbour(n: u64, code: u64, level: u64, direction: Direction) -> Near
     ensures { near result ≡ neighbour n code level direction }
 {

@@ -132,6 +132,7 @@ fn field_at(text: &[u8], at: usize) -> Field
 }
 
 // The size of a picture whose side is so long.
+#[tactic(auto, unfolding(crate::specs::Reading::size_from))]
 fn size_of(side: u64) -> u64
     ensures { result ≡ size_of_side side }
 {

@@ -133,6 +133,7 @@ fn decode_four(
 }
 
 // Where each cell of a tile stands that lies so many rows and columns within four aligned blocks.
+#[tactic(auto, using(crate::specs::Laws::Codes::tile_cell_lem))]
 pub fn steps(row: u64, column: u64, table: &[u16; 256]) -> [u16; 256]
     requires { Spreads table.now × (row < 16) × (column < 16) }
     ensures { Steps row column result }

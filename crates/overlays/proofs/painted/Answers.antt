@@ -2,10 +2,9 @@
 use Rattle.overlays.proofs.painted.Goals.{After-write-arg-1}
 use Rattle.std.proofs.Common.{ap, arith, ◌≤◌, length}
 use Rattle.std.proofs.Math.Path.{◌∙◌}
-use Rattle.refusal.specs.Rules as rule
-use Rattle.refusal.specs.Answer.{gives, refuses}
+use Rattle.refusal.specs.Answer.{gives}
 use Rattle.shortest.specs.Shortest.{shortest}
-use Rattle.shortest.specs.Laws.Outcome.{always_fits, fitting_gives, fitting_refuses, told}
+use Rattle.shortest.specs.Laws.Outcome.{always_fits, fitting_gives, told}
 use Rattle.painter.specs.Scene.{picture}
 use Rattle.painter.specs.Laws.Blocks.{coloured}
 use Rattle.overlays.proofs.painted.Goals as goal
@@ -27,19 +26,10 @@ returns-then-area-out c =
       left = c.write.ensures.left ∙ t.1;
     }
 
-pub returns-then-out-leaves : goal.returns-then-out-leaves
-returns-then-out-leaves c =
-    let a = c.args in
-    let t = told (fitting_refuses (shortest (picture a.s a.first.now a.second.now) a.w 0) (length a.out.now) (omega (arith, c.if-out-leaves.true, c.leaves-leaves.ensures))) a.out.now in
-    record {
-      answered = ap (refuses rule.no_room) c.leaves-leaves.ensures ∙ t.0;
-      left = t.1;
-    }
-
 pub returns : goal.returns
 returns c =
     let a = c.args in
-    let t = told (fitting_gives (shortest (picture a.s a.first.now a.second.now) a.w 0) (length a.out.now) (omega (arith, c.if-out-leaves.false, c.leaves-leaves.ensures))) a.out.now in
+    let t = told (fitting_gives (shortest (picture a.s a.first.now a.second.now) a.w 0) (length a.out.now) (omega (arith, c.leaves-leaves.ensures))) a.out.now in
     record {
       answered = ap gives c.write-2.ensures.counted ∙ t.0;
       left = c.write-2.ensures.left ∙ t.1;

@@ -11,14 +11,11 @@ use Rattle.tiling.specs.Laws.Tests.{and_both}
 use Rattle.tiling.specs.Laws.Signed.{held}
 use Rattle.lookups.specs.Neighbour.{is_block, row_away, column_away}
 use Rattle.lookups.specs.Laws.Away.{south_once, east_once, once_le}
-use Rattle.lookups.specs.Laws.Ways.{neighbour-size, neighbour_block, neighbour-outside, neighbour_gives}
+use Rattle.lookups.specs.Laws.Ways.{neighbour_block, neighbour-outside, neighbour_gives}
 use Rattle.lookups.proofs.neighbours.neighbour.Goals as goal
 
-pub returns-then-n-gt-LIMIT : goal.returns-then-n-gt-LIMIT
-returns-then-n-gt-LIMIT c = neighbour-size _ _ _ _ c.if-n-gt-LIMIT.true
-
 pub returns-then-not-is_block : goal.returns-then-not-is_block
-returns-then-not-is_block c = neighbour_block _ _ _ _ c.if-n-gt-LIMIT.false (sym c.is_block.ensures ∙ c.if-not-is_block.true)
+returns-then-not-is_block c = neighbour_block _ _ _ _ (omega arith) (sym c.is_block.ensures ∙ c.if-not-is_block.true)
 
 -- past the tests: a block of the square
 block : (c : Else-not-is_block) → let a = c.args in is_block a.n a.code a.level ≡ true
@@ -27,7 +24,7 @@ block c = sym c.is_block.ensures ∙ c.if-not-is_block.false
 pub side-side-requires : goal.side-side-requires
 side-side-requires c =
     let a = c.args in
-    omega (arith, c.if-n-gt-LIMIT.false, leb-true a.level a.n (and_both _ _ (and_both _ _ (block c)).0).0)
+    omega (arith, leb-true a.level a.n (and_both _ _ (and_both _ _ (block c)).0).0)
 
 pub stepped-row-requires : goal.stepped-row-requires
 stepped-row-requires c =
@@ -61,14 +58,14 @@ away c =
 
 pub returns-then-not-inside : goal.returns-then-not-inside
 returns-then-not-inside c =
-    neighbour-outside c.args.n c.args.code c.args.level c.args.direction c.if-n-gt-LIMIT.false (block (goal.at.returns-then-not-inside c).Else-not-is_block)
+    neighbour-outside c.args.n c.args.code c.args.level c.args.direction (omega arith) (block (goal.at.returns-then-not-inside c).Else-not-is_block)
     (sym (away (goal.at.returns-then-not-inside c).After-inside) ∙ c.if-not-inside.true)
 
 pub cell_code-requires : goal.cell_code-requires
-cell_code-requires c = (omega (arith, c.if-n-gt-LIMIT.false), sym c.inside.ensures ∙ c.if-not-inside.false)
+cell_code-requires c = (omega arith, sym c.inside.ensures ∙ c.if-not-inside.false)
 
 pub returns : goal.returns
 returns c =
     let a = c.args in
     ap gives (c.cell_code.ensures ∙ ap₂ (λ (y x : ℤ). code (nat_abs y) (nat_abs x)) (held _ c.stepped-row.type_inv ∙ row (goal.at.returns c).After-stepped-row) (held _ c.stepped-column.type_inv ∙ column (goal.at.returns c).After-stepped-column))
-    ∙ neighbour_gives a.n a.code a.level a.direction c.if-n-gt-LIMIT.false (block (goal.at.returns c).Else-not-is_block) (sym (away (goal.at.returns c).After-inside) ∙ c.if-not-inside.false)
+    ∙ neighbour_gives a.n a.code a.level a.direction (omega arith) (block (goal.at.returns c).Else-not-is_block) (sym (away (goal.at.returns c).After-inside) ∙ c.if-not-inside.false)

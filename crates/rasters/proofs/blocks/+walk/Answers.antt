@@ -68,23 +68,11 @@ below t c = omega (arith, some t (goal.at.After-side-h t c).Else-level-eq-LEVEL,
 pub walk-requires : goal.walk-requires
 walk-requires t c = (below t (goal.at.walk-requires t c).After-side-h, (c.requires.0, c.requires.1, (down t (goal.at.walk-requires t c).After-side-h).nw))
 
-pub overflow_add-x : goal.overflow_add-x
-overflow_add-x t c = omega (arith, (down t (goal.at.overflow_add-x t c).After-side-h).right)
-
 pub walk-requires-2 : goal.walk-requires-2
 walk-requires-2 t c = (below t (goal.at.walk-requires-2 t c).After-side-h, (c.requires.0, c.requires.1, rw c.walk.auto.cells (down t (goal.at.walk-requires-2 t c).After-side-h).ne))
 
-pub overflow_add-y : goal.overflow_add-y
-overflow_add-y t c = omega (arith, (down t (goal.at.overflow_add-y t c).After-side-h).bottom)
-
 pub walk-requires-3 : goal.walk-requires-3
 walk-requires-3 t c = (below t (goal.at.walk-requires-3 t c).After-side-h, (c.requires.0, c.requires.1, rw (c.walk-2.auto.cells, c.walk.auto.cells) (down t (goal.at.walk-requires-3 t c).After-side-h).sw))
-
-pub overflow_add-y-2 : goal.overflow_add-y-2
-overflow_add-y-2 t c = omega (arith, (down t (goal.at.overflow_add-y-2 t c).After-side-h).bottom)
-
-pub overflow_add-x-2 : goal.overflow_add-x-2
-overflow_add-x-2 t c = omega (arith, (down t (goal.at.overflow_add-x-2 t c).After-side-h).right)
 
 pub walk-requires-4 : goal.walk-requires-4
 walk-requires-4 t c = (below t (goal.at.walk-requires-4 t c).After-side-h, (c.requires.0, c.requires.1, rw (c.walk-3.auto.cells, c.walk-2.auto.cells, c.walk.auto.cells) (down t (goal.at.walk-requires-4 t c).After-side-h).se))

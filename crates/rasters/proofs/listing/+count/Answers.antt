@@ -54,23 +54,11 @@ down t c = four _ _ _ _ _ _ _ _ (omega (arith, c.if-level-eq0.false)) refl c.sid
 pub count-nw-requires : goal.count-nw-requires
 count-nw-requires t c = (omega (arith, c.decreases, c.if-level-eq0.false), (down t c).nw)
 
-pub overflow_add-x : goal.overflow_add-x
-overflow_add-x t c = omega (arith, (down t (goal.at.overflow_add-x t c).After-side-side).quarters)
-
 pub count-ne-requires : goal.count-ne-requires
 count-ne-requires t c = (omega (arith, c.decreases, c.if-level-eq0.false), counts_own _ _ _ _ _ _ (down t (goal.at.count-ne-requires t c).After-side-side).ne)
 
-pub overflow_add-y : goal.overflow_add-y
-overflow_add-y t c = omega (arith, (down t (goal.at.overflow_add-y t c).After-side-side).quarters)
-
 pub count-sw-requires : goal.count-sw-requires
 count-sw-requires t c = (omega (arith, c.decreases, c.if-level-eq0.false), counts_own _ _ _ _ _ _ (down t (goal.at.count-sw-requires t c).After-side-side).sw)
-
-pub overflow_add-y-2 : goal.overflow_add-y-2
-overflow_add-y-2 t c = omega (arith, (down t (goal.at.overflow_add-y-2 t c).After-side-side).quarters)
-
-pub overflow_add-x-2 : goal.overflow_add-x-2
-overflow_add-x-2 t c = omega (arith, (down t (goal.at.overflow_add-x-2 t c).After-side-side).quarters)
 
 pub count-se-requires : goal.count-se-requires
 count-se-requires t c = (omega (arith, c.decreases, c.if-level-eq0.false), counts_own _ _ _ _ _ _ (down t (goal.at.count-se-requires t c).After-side-side).se)

@@ -106,9 +106,6 @@ overflow_add-second t c = omega (arith, fits₁ t c)
 pub overflow_add-code : goal.overflow_add-code
 overflow_add-code t c = omega (arith, codes t (goal.at.overflow_add-code t c).After-area-area)
 
-pub overflow_add-x : goal.overflow_add-x
-overflow_add-x t c = omega (arith, (down t (goal.at.overflow_add-x t c).After-area-area).quarters)
-
 pub put-ne-requires : goal.put-ne-requires
 put-ne-requires t c = rw c.area-area.ensures.is (omega (arith, c.decreases, c.if-level-eq0.false), record { counts = (down t (goal.at.put-ne-requires t c).After-area-area).ne; placed = placed₁ t (goal.at.put-ne-requires t c).After-size })
 
@@ -138,9 +135,6 @@ overflow_mul-area t c = omega (arith, codes t (goal.at.overflow_mul-area t c).Af
 pub overflow_add-code-2 : goal.overflow_add-code-2
 overflow_add-code-2 t c = omega (arith, codes t (goal.at.overflow_add-code-2 t c).After-area-area)
 
-pub overflow_add-y : goal.overflow_add-y
-overflow_add-y t c = omega (arith, (down t (goal.at.overflow_add-y t c).After-area-area).quarters)
-
 pub put-sw-requires : goal.put-sw-requires
 put-sw-requires t c = rw c.area-area.ensures.is (omega (arith, c.decreases, c.if-level-eq0.false), record { counts = (down t (goal.at.put-sw-requires t c).After-area-area).sw; placed = placed₂ t (goal.at.put-sw-requires t c).After-size-2 })
 
@@ -169,12 +163,6 @@ overflow_mul-area-2 t c = omega (arith, codes t (goal.at.overflow_mul-area-2 t c
 
 pub overflow_add-code-3 : goal.overflow_add-code-3
 overflow_add-code-3 t c = omega (arith, codes t (goal.at.overflow_add-code-3 t c).After-area-area)
-
-pub overflow_add-y-2 : goal.overflow_add-y-2
-overflow_add-y-2 t c = omega (arith, (down t (goal.at.overflow_add-y-2 t c).After-area-area).quarters)
-
-pub overflow_add-x-2 : goal.overflow_add-x-2
-overflow_add-x-2 t c = omega (arith, (down t (goal.at.overflow_add-x-2 t c).After-area-area).quarters)
 
 pub put-se-requires : goal.put-se-requires
 put-se-requires t c = rw c.area-area.ensures.is (omega (arith, c.decreases, c.if-level-eq0.false), record { counts = (down t (goal.at.put-se-requires t c).After-area-area).se; placed = placed₃ t (goal.at.put-se-requires t c).After-size-3 })

@@ -18,23 +18,11 @@ down c = four _ _ _ _ _ 2 2 4 (omega arith) refl refl c.requires
 pub count_cells-nw-requires : goal.count_cells-nw-requires
 count_cells-nw-requires c = (down (goal.at.count_cells-nw-requires c).Start).nw
 
-pub overflow_add-x : goal.overflow_add-x
-overflow_add-x c = omega (arith, (down (goal.at.overflow_add-x c).Start).quarters)
-
 pub count_cells-ne-requires : goal.count_cells-ne-requires
 count_cells-ne-requires c = counts_own _ _ _ _ _ _ (down (goal.at.count_cells-ne-requires c).Start).ne
 
-pub overflow_add-y : goal.overflow_add-y
-overflow_add-y c = omega (arith, (down (goal.at.overflow_add-y c).Start).quarters)
-
 pub count_cells-sw-requires : goal.count_cells-sw-requires
 count_cells-sw-requires c = counts_own _ _ _ _ _ _ (down (goal.at.count_cells-sw-requires c).Start).sw
-
-pub overflow_add-y-2 : goal.overflow_add-y-2
-overflow_add-y-2 c = omega (arith, (down (goal.at.overflow_add-y-2 c).Start).quarters)
-
-pub overflow_add-x-2 : goal.overflow_add-x-2
-overflow_add-x-2 c = omega (arith, (down (goal.at.overflow_add-x-2 c).Start).quarters)
 
 pub count_cells-se-requires : goal.count_cells-se-requires
 count_cells-se-requires c = counts_own _ _ _ _ _ _ (down (goal.at.count_cells-se-requires c).Start).se

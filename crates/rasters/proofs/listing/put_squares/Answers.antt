@@ -42,9 +42,6 @@ overflow_add-second c = omega (arith, small₁ (picture (goal.at.overflow_add-se
 pub overflow_add-code : goal.overflow_add-code
 overflow_add-code c = omega (arith, (down (goal.at.overflow_add-code c).After-slice_known-1).quarters)
 
-pub overflow_add-x : goal.overflow_add-x
-overflow_add-x c = omega (arith, (down (goal.at.overflow_add-x c).After-slice_known-1).quarters)
-
 pub put_cells-ne-requires : goal.put_cells-ne-requires
 put_cells-ne-requires c = record { counts = (down (goal.at.put_cells-ne-requires c).After-slice_known-1).ne; placed = placed_ne (picture (goal.at.put_cells-ne-requires c).After-slice_known-1) (bytes (goal.at.put_cells-ne-requires c).After-slice_known-1) _ _ 1 _ (placed (goal.at.put_cells-ne-requires c).After-slice_known-1) _ _ _ (wrote₀ (goal.at.put_cells-ne-requires c).After-size) }
 
@@ -60,9 +57,6 @@ overflow_add-third c = omega (arith, small₂ (picture (goal.at.overflow_add-thi
 pub overflow_add-code-2 : goal.overflow_add-code-2
 overflow_add-code-2 c = omega (arith, (down (goal.at.overflow_add-code-2 c).After-slice_known-1).quarters)
 
-pub overflow_add-y : goal.overflow_add-y
-overflow_add-y c = omega (arith, (down (goal.at.overflow_add-y c).After-slice_known-1).quarters)
-
 pub put_cells-sw-requires : goal.put_cells-sw-requires
 put_cells-sw-requires c = record { counts = (down (goal.at.put_cells-sw-requires c).After-slice_known-1).sw; placed = placed_sw (picture (goal.at.put_cells-sw-requires c).After-slice_known-1) (bytes (goal.at.put_cells-sw-requires c).After-slice_known-1) _ _ 1 _ (placed (goal.at.put_cells-sw-requires c).After-slice_known-1) _ _ _ (wrote₀ (goal.at.put_cells-sw-requires c).After-size) _ _ _ (wrote₁ (goal.at.put_cells-sw-requires c).After-size-2) }
 
@@ -77,12 +71,6 @@ overflow_add-fourth c = omega (arith, small₃ (picture (goal.at.overflow_add-fo
 
 pub overflow_add-code-3 : goal.overflow_add-code-3
 overflow_add-code-3 c = omega (arith, (down (goal.at.overflow_add-code-3 c).After-slice_known-1).quarters)
-
-pub overflow_add-y-2 : goal.overflow_add-y-2
-overflow_add-y-2 c = omega (arith, (down (goal.at.overflow_add-y-2 c).After-slice_known-1).quarters)
-
-pub overflow_add-x-2 : goal.overflow_add-x-2
-overflow_add-x-2 c = omega (arith, (down (goal.at.overflow_add-x-2 c).After-slice_known-1).quarters)
 
 pub put_cells-se-requires : goal.put_cells-se-requires
 put_cells-se-requires c = record { counts = (down (goal.at.put_cells-se-requires c).After-slice_known-1).se; placed = placed_se (picture (goal.at.put_cells-se-requires c).After-slice_known-1) (bytes (goal.at.put_cells-se-requires c).After-slice_known-1) _ _ 1 _ (placed (goal.at.put_cells-se-requires c).After-slice_known-1) _ _ _ (wrote₀ (goal.at.put_cells-se-requires c).After-size) _ _ _ (wrote₁ (goal.at.put_cells-se-requires c).After-size-2) _ _ _ (wrote₂ (goal.at.put_cells-se-requires c).After-size-3) }

@@ -11,12 +11,6 @@ use Rattle.tiles.proofs.decoding.steps.Goals as goal
 pub loop-j-init : goal.loop-j-init
 loop-j-init c = (omega arith, refl, stored_none _ _ _)
 
-pub overflow_add-row : goal.overflow_add-row
-overflow_add-row c = omega (arith, c.requires, c.row_of.ensures, tile_cell_lem c.loop-j.j (omega arith))
-
-pub overflow_add-column : goal.overflow_add-column
-overflow_add-column c = omega (arith, c.requires, c.column_of.ensures, tile_cell_lem c.loop-j.j (omega arith))
-
 pub code_of-step-requires : goal.code_of-step-requires
 code_of-step-requires c =
     let t = tile_cell_lem c.loop-j.j (omega arith) in
