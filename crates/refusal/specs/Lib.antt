@@ -1,2 +1,4 @@
 pub mod Rules
 pub mod Answer
+pub mod Read
+pub mod Laws

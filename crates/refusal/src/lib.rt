@@ -1,34 +1,80 @@
-// What every call of the library may answer instead of its value: a refusal, by its No. and its number.
+// What every call of the library may answer instead of its value: a refusal, by the rule that was broken and the rule's number.
 //
-// The constants are the twelve rules. Their conditions and the numbers that go with them stand in specs/Rules.antt.
+// The variants are the twelve rules, in their order. Their conditions and the numbers that go with them stand in specs/Rules.antt; how a
+// refusal is read as the paper's No. and number, in specs/Read.antt.
 #![tactic(auto)]
 
-#[derive(Clone, Copy)]
-pub struct Refusal {
-    pub rule: u64,
-    pub number: u64,
+ghost use Rattle.std.specs.Prelude.{◌≡◌};
+
+use std::error::Error;
+use std::fmt;
+
+// A rule that always gives the number 0 carries none.
+#[derive(Clone, Copy, Debug, PartialEq, Eq, Drop)]
+pub enum Refusal {
+    Size(u64),
+    Offset(u64),
+    FirstList(u64),
+    SecondList(u64),
+    NoRoom(u64),
+    GroundNumber(u64),
+    CellSides,
+    PartOfACell(u64),
+    Outside,
+    RasterLength,
+    PictureText,
+    BlockAddress,
 }
 
-pub const SIZE: u64 = 1;
+impl Refusal {
+    ghost use Rattle.refusal.specs.Read.{rule_of, number_of};
 
-pub const OFFSET: u64 = 2;
+    // The paper's No.
+    pub fn rule(self) -> u64
+        ensures { result ≡ rule_of self }
+    {
+        match self {
+            Refusal::Size(_) => 1,
+            Refusal::Offset(_) => 2,
+            Refusal::FirstList(_) => 3,
+            Refusal::SecondList(_) => 4,
+            Refusal::NoRoom(_) => 5,
+            Refusal::GroundNumber(_) => 6,
+            Refusal::CellSides => 7,
+            Refusal::PartOfACell(_) => 8,
+            Refusal::Outside => 9,
+            Refusal::RasterLength => 10,
+            Refusal::PictureText => 11,
+            Refusal::BlockAddress => 12,
+        }
+    }
 
-pub const FIRST_LIST: u64 = 3;
+    // The number that the rule returns.
+    pub fn number(self) -> u64
+        ensures { result ≡ number_of self }
+    {
+        match self {
+            Refusal::Size(k)
+            | Refusal::Offset(k)
+            | Refusal::FirstList(k)
+            | Refusal::SecondList(k)
+            | Refusal::NoRoom(k)
+            | Refusal::GroundNumber(k)
+            | Refusal::PartOfACell(k) => k,
+            Refusal::CellSides
+            | Refusal::Outside
+            | Refusal::RasterLength
+            | Refusal::PictureText
+            | Refusal::BlockAddress => 0,
+        }
+    }
+}
 
-pub const SECOND_LIST: u64 = 4;
+impl fmt::Display for Refusal {
+    fn fmt<W: fmt::Write>(&self, f: &mut fmt::Formatter<W>) -> fmt::Result {
+        let (rule, number) = (self.rule(), self.number());
+        write!(f, "refusal {rule}, number {number}")
+    }
+}
 
-pub const NO_ROOM: u64 = 5;
-
-pub const GROUND_NUMBER: u64 = 6;
-
-pub const CELL_SIDES: u64 = 7;
-
-pub const PART_OF_A_CELL: u64 = 8;
-
-pub const OUTSIDE: u64 = 9;
-
-pub const RASTER_LENGTH: u64 = 10;
-
-pub const PICTURE_TEXT: u64 = 11;
-
-pub const BLOCK_ADDRESS: u64 = 12;
+impl Error for Refusal {}
