@@ -21,3 +21,10 @@ pub record Quarters (k y x L h q : ℕ) : Type 0 where
   pub codes : k + 4 * q ≤ 4 ^ highest
   pub bottom : y + 2 * h ≤ 2 ^ highest
   pub right : x + 2 * h ≤ 2 ^ highest
+
+-- (k', y', x', L') is the quarter i to the south and j to the east of the block of level L + 1 at (k, y, x)
+pub record Quartered (k y x L i j k' y' x' L' : ℕ) : Type 0 where
+  pub code : k' ≡ k + (2 * i + j) * 4 ^ L
+  pub row : y' ≡ y + i * 2 ^ L
+  pub column : x' ≡ x + j * 2 ^ L
+  pub level : L' ≡ L

@@ -1,7 +1,7 @@
--- `morton::code_of` meets its contract: a code is two spread numbers, the row's one place higher.
+-- `morton::Spread::code_of` meets its contract: a code is two spread numbers, the row's one place higher.
 use Rattle.std.proofs.Common.{arith}
 use Rattle.morton.specs.Laws.Spread.{code-spread, spread-lt}
-use Rattle.morton.proofs.code_of.Goals as goal
+use Rattle.morton.proofs.spread.Spread.code_of.Goals as goal
 
 pub overflow_mul-result : goal.overflow_mul-result
 overflow_mul-result c = omega (arith, spread-lt 16 c.args.row, spread-lt 16 c.args.column)

@@ -1,7 +1,7 @@
--- `morton::spread_bits` meets its contract: a number is spread byte by byte.
+-- `morton::Spread::bits` meets its contract: a number is spread byte by byte.
 use Rattle.std.proofs.Common.{◌/◌, ◌%◌, arith}
 use Rattle.morton.specs.Laws.Spread.{spread-lt, spread_split, spread-mod}
-use Rattle.morton.proofs.spread_bits.Goals as goal
+use Rattle.morton.proofs.spread.Spread.bits.Goals as goal
 
 pub overflow_mul-result : goal.overflow_mul-result
 overflow_mul-result c = omega (arith, spread-lt 8 (c.args.v / 256))
