@@ -25,23 +25,35 @@ pub fn size(p: u64) -> u64
     p - COLOURS
 }
 
-// Whether four quarters are of one colour.
-#[tactic(auto, unfolding(crate::specs::Part::merge))]
-fn merge(p0: u64, p1: u64, p2: u64, p3: u64) -> bool
-    ensures { result ≡ merge p0 p1 p2 p3 }
-{
-    (p0 < COLOURS) & (p1 == p0) & (p2 == p0) & (p3 == p0)
+// The parts of a block's four quarters.
+#[derive(Clone, Copy, Debug, PartialEq, Eq)]
+pub struct Parts {
+    pub nw: u64,
+    pub ne: u64,
+    pub sw: u64,
+    pub se: u64,
 }
 
-// The part of a block, from its quarters'.
-pub fn joined(p0: u64, p1: u64, p2: u64, p3: u64) -> u64
-    requires { size_of p0 + size_of p1 + size_of p2 + size_of p3 ≤ 4 ^ highest }
-    ensures { result ≡ joined p0 p1 p2 p3 }
-{
-    if merge(p0, p1, p2, p3) {
-        return p0;
+impl Parts {
+    // Whether they are of one colour.
+    #[tactic(auto, unfolding(crate::specs::Part::merge))]
+    fn merge(self) -> bool
+        ensures { result ≡ merge self.nw self.ne self.sw self.se }
+    {
+        let first = self.nw;
+        (first < COLOURS) & (self.ne == first) & (self.sw == first) & (self.se == first)
     }
-    COLOURS + (size(p0) + size(p1) + size(p2) + size(p3))
+
+    // The part of the block.
+    pub fn joined(self) -> u64
+        requires { size_of self.nw + size_of self.ne + size_of self.sw + size_of self.se ≤ 4 ^ highest }
+        ensures { result ≡ joined self.nw self.ne self.sw self.se }
+    {
+        if self.merge() {
+            return self.nw;
+        }
+        COLOURS + (size(self.nw) + size(self.ne) + size(self.sw) + size(self.se))
+    }
 }
 
 // Stores a part that is one colour as the leaf of its block.
@@ -56,40 +68,31 @@ pub fn fill(out: &mut [u64], at: u64, p: u64, code: u64, level: u64)
 }
 
 // Stores those of a block's quarters that are of one colour, each at its place.
-fn settle(out: &mut [u64], at: u64, p0: u64, p1: u64, p2: u64, p3: u64, code: u64, level: u64)
-    requires { Settles out.old at p0 p1 p2 p3 code level }
-    ensures { out.new ≡ settled out.old at p0 p1 p2 p3 code level }
+fn settle(out: &mut [u64], at: u64, parts: Parts, code: u64, level: u64)
+    requires { Settles out.old at parts.nw parts.ne parts.sw parts.se code level }
+    ensures { out.new ≡ settled out.old at parts.nw parts.ne parts.sw parts.se code level }
 {
     let area = morton::area(level);
-    let ne = at + size(p0);
-    let sw = ne + size(p1);
-    let se = sw + size(p2);
-    fill(out, at, p0, code, level);
-    fill(out, ne, p1, code + area, level);
-    fill(out, sw, p2, code + 2 * area, level);
-    fill(out, se, p3, code + 3 * area, level);
+    let ne = at + size(parts.nw);
+    let sw = ne + size(parts.ne);
+    let se = sw + size(parts.sw);
+    fill(out, at, parts.nw, code, level);
+    fill(out, ne, parts.ne, code + area, level);
+    fill(out, sw, parts.sw, code + 2 * area, level);
+    fill(out, se, parts.se, code + 3 * area, level);
 }
 
 // The part of a block, from its quarters', which are of the level. Unless the four merge, those of one colour are stored.
 #[tactic(auto, using(crate::specs::Laws::Written::finished_one))]
-pub fn finish(
-    out: &mut [u64],
-    at: u64,
-    p0: u64,
-    p1: u64,
-    p2: u64,
-    p3: u64,
-    code: u64,
-    level: u64,
-) -> u64
-    requires { Finishes out.old at p0 p1 p2 p3 code level }
-    ensures part { result ≡ joined p0 p1 p2 p3 }
-    ensures left { out.new ≡ finished out.old at p0 p1 p2 p3 code level }
+pub fn finish(out: &mut [u64], at: u64, parts: Parts, code: u64, level: u64) -> u64
+    requires { Finishes out.old at parts.nw parts.ne parts.sw parts.se code level }
+    ensures part { result ≡ joined parts.nw parts.ne parts.sw parts.se }
+    ensures left { out.new ≡ finished out.old at parts.nw parts.ne parts.sw parts.se code level }
 {
-    let part = joined(p0, p1, p2, p3);
+    let part = parts.joined();
     if part < COLOURS {
         return part;
     }
-    settle(out, at, p0, p1, p2, p3, code, level);
+    settle(out, at, parts, code, level);
     part
 }

@@ -9,16 +9,18 @@ use Rattle.shortest.proofs.finish.Goals as goal
 pub settle-requires : goal.settle-requires
 settle-requires c =
     let a = c.args in
+    let p = a.parts in
     record {
       codes = c.requires.codes;
       level = c.requires.level;
-      room = omega (arith, c.joined-part.ensures, joined-sizes a.p0 a.p1 a.p2 a.p3 (omega (arith, c.joined-part.ensures)), c.requires.room (omega (arith, c.joined-part.ensures)));
+      room = omega (arith, c.joined-part.ensures, joined-sizes p.nw p.ne p.sw p.se (omega (arith, c.joined-part.ensures)), c.requires.room (omega (arith, c.joined-part.ensures)));
     }
 
 pub returns : goal.returns
 returns c =
     let a = c.args in
+    let p = a.parts in
     record {
       part = c.joined-part.ensures;
-      left = c.settle.ensures ∙ sym (finished_many a.out.now a.at a.p0 a.p1 a.p2 a.p3 a.code a.level (omega (arith, c.joined-part.ensures)));
+      left = c.settle.ensures ∙ sym (finished_many a.out.now a.at p.nw p.ne p.sw p.se a.code a.level (omega (arith, c.joined-part.ensures)));
     }

@@ -5,6 +5,7 @@ use Rattle.shortest.proofs.settle.Goals as goal
 pub returns : goal.returns
 returns c =
     let a = c.args in
-    settled_four a.out.now _ _ _ _ a.at _ _ _ a.p0 a.p1 a.p2 a.p3 a.code a.level _
+    let p = a.parts in
+    settled_four a.out.now _ _ _ _ a.at _ _ _ p.nw p.ne p.sw p.se a.code a.level _
     c.area-area.ensures.is c.size.ensures c.size-2.ensures c.size-3.ensures
     c.fill.ensures c.fill-2.ensures c.fill-3.ensures c.fill-4.ensures
