@@ -1,13 +1,11 @@
 -- The check names the first wrong entry of a list that is not well formed.
-use Rattle.std.specs.Prelude.{◌≡◌, refl, Bool, true, false, cond, List, [], ◌∷◌, ◌⊎◌, ℕ, zero, suc, ◌+◌, ◌^◌, ◌<◌, eqb, length, get_or}
+use Rattle.std.specs.Prelude.{◌≡◌, refl, Bool, true, false, cond, List, [], ◌∷◌, ◌⊎◌, ℕ, zero, suc, ◌+◌, ◌^◌, ◌<◌, eqb, length, get_or, Result, Ok, Err}
 use Rattle.std.proofs.Common.{sym, ap, ◌∙◌, inl, inr, ⊎_elim, not-suc-le-zero, le_of_suc-le-suc, zero-lt-suc, arith}
 use Rattle.std.proofs.lemmas.Bool.{false≢true, eqb-false}
 use Rattle.std.proofs.Math.Decide.{dec_lt}
 use Rattle.tiling.specs.Leaf.{end_of}
 use Rattle.tiling.specs.WellFormed.{Right, WellFormed, FirstWrong}
 use Rattle.tiling.specs.Check.{right_entry, checked_from, checked}
-use Rattle.tiling.specs.declared.Checked.{Checked}
-use Rattle.tiling.specs.declared.Checked.TheVariants.{Tiles, Wrong}
 use Rattle.tiling.specs.Laws.Run.{end_from, end_next, from_zero}
 use Rattle.tiling.specs.Laws.Check.{entry_right, right_entry_lem, tiles_formed}
 
@@ -34,11 +32,11 @@ further n e i j w ws r f = record {
     all zero h = r
     all (suc k) h = rw (end_next e w ws k) (f.before k (le_of_suc-le-suc h))
 
-wrong_from : (n e i : ℕ) (l : List ℕ) (j : ℕ) → checked_from n e i l ≡ Wrong j → WrongFrom n e l i j
+wrong_from : (n e i : ℕ) (l : List ℕ) (j : ℕ) → checked_from n e i l ≡ Err j → WrongFrom n e l i j
 unfolding checked_from
 wrong_from n e i [] j h = go (eqb e (4 ^ n)) refl h
   where
-    go : (b : Bool) → eqb e (4 ^ n) ≡ b → cond b Tiles (Wrong i) ≡ Wrong j → WrongFrom n e [] i j
+    go : (b : Bool) → eqb e (4 ^ n) ≡ b → cond b (Ok (tt {0})) (Err i) ≡ Err j → WrongFrom n e [] i j
     go true q x = let z : ◌≡◌ {A = ℕ} 0 1 = cc in absurd (omega arith)
     go false q x = record {
       d = 0;
@@ -48,8 +46,8 @@ wrong_from n e i [] j h = go (eqb e (4 ^ n)) refl h
     }
 wrong_from n e i (w ∷ ws) j h = go (right_entry n e w) refl h (wrong_from n (end_of w) (suc i) ws j)
   where
-    go : (b : Bool) → right_entry n e w ≡ b → cond b (checked_from n (end_of w) (suc i) ws) (Wrong i) ≡ Wrong j
-        → (checked_from n (end_of w) (suc i) ws ≡ Wrong j → WrongFrom n (end_of w) ws (suc i) j) → WrongFrom n e (w ∷ ws) i j
+    go : (b : Bool) → right_entry n e w ≡ b → cond b (checked_from n (end_of w) (suc i) ws) (Err i) ≡ Err j
+        → (checked_from n (end_of w) (suc i) ws ≡ Err j → WrongFrom n (end_of w) ws (suc i) j) → WrongFrom n e (w ∷ ws) i j
     go true q x f = further n e i j w ws (entry_right n e w q) (f x)
     go false q x f = record {
       d = 0;
@@ -58,7 +56,7 @@ wrong_from n e i (w ∷ ws) j h = go (right_entry n e w) refl h (wrong_from n (e
       here = inl (zero-lt-suc (length ws), λ r. false≢true (sym q ∙ right_entry_lem n e w r));
     }
 
-pub wrong_first : (n : ℕ) (l : List ℕ) (i : ℕ) → checked n l ≡ Wrong i → FirstWrong n l i
+pub wrong_first : (n : ℕ) (l : List ℕ) (i : ℕ) → checked n l ≡ Err i → FirstWrong n l i
 wrong_first n l i h =
     let f = wrong_from n 0 0 l i h in
     let e : f.d ≡ i = omega (arith, f.place) in
@@ -85,9 +83,9 @@ formed_none : (n : ℕ) (l : List ℕ) (i : ℕ) → WellFormed n l → FirstWro
 formed_none n l i w f = ⊎_elim (λ a. a.1 (w.right i a.0)) (λ a. a.1 (rw a.0 w.ends)) f.here
 
 -- so the check names a position exactly if the first wrong entry stands there
-pub first_wrong : (n : ℕ) (l : List ℕ) (i : ℕ) → FirstWrong n l i → checked n l ≡ Wrong i
+pub first_wrong : (n : ℕ) (l : List ℕ) (i : ℕ) → FirstWrong n l i → checked n l ≡ Err i
 first_wrong n l i f = go (checked n l) refl
   where
-    go : (c : Checked) → checked n l ≡ c → checked n l ≡ Wrong i
-    go Tiles e = absurd (formed_none n l i (tiles_formed n l e) f)
-    go (Wrong j) e = e ∙ ap Wrong (first_wrong_one n l j i (wrong_first n l j e) f)
+    go : (c : Result (Unit {0}) ℕ) → checked n l ≡ c → checked n l ≡ Err i
+    go (Ok u) e = absurd (formed_none n l i (tiles_formed n l e) f)
+    go (Err j) e = e ∙ ap Err (first_wrong_one n l j i (wrong_first n l j e) f)

@@ -1,6 +1,7 @@
 -- One turn of the check's walk over a list.
 use Rattle.std.proofs.Math.Path.{◌≡◌}
-use Rattle.std.proofs.Common.{false, List, length, drop, ℕ, ◌+◌, ◌^◌, ◌<◌, ◌≤◌, add-one}
+use Rattle.std.specs.Prelude.{Ok, Err}
+use Rattle.std.proofs.Common.{false, List, length, drop, ℕ, ◌+◌, ◌^◌, ◌<◌, ◌≤◌, add-one, arith}
 use Rattle.std.proofs.Math.ListN.{get_or, drop_of_length-le}
 use Rattle.std.proofs.Math.Seq.{drop-cons}
 use borrow.Author.Tests.{eq-eqb, ne_eqb}
@@ -8,23 +9,22 @@ use Rattle.tiling.specs.Leaf.{end_of}
 use Rattle.tiling.specs.WellFormed.{Right}
 use Rattle.tiling.specs.Laws.Check.{right_entry_lem}
 use Rattle.tiling.specs.Check.{right_entry, checked_from, checked}
-use Rattle.tiling.specs.declared.Checked.TheVariants.{Tiles, Wrong}
 
 -- the check of the list is that of what is left, after i entries that are right and end at e
 abbrev pub Walked : ℕ → List ℕ → ℕ → ℕ → Type 0
 Walked n l e i = checked n l ≡ checked_from n e i (drop i l)
 
 module _ (n : ℕ) (l : List ℕ) (e i : ℕ) (k : Walked n l e i) where
-  pub whole : length l ≤ i → e ≡ 4 ^ n → Tiles ≡ checked n l
+  pub whole : i ≡ length l → e ≡ 4 ^ n → Ok tt ≡ checked n l
   unfolding checked_from
-  whole h p = rw (k, drop_of_length-le l h, eq-eqb e (4 ^ n) p)
+  whole h p = let g : length l ≤ i = omega (arith, h) in rw (k, drop_of_length-le l g, eq-eqb e (4 ^ n) p)
 
-  pub short : length l ≤ i → (e ≡ 4 ^ n → ⊥) → Wrong i ≡ checked n l
+  pub short : i ≡ length l → (e ≡ 4 ^ n → ⊥) → Err (length l) ≡ checked n l
   unfolding checked_from
-  short h p = rw (k, drop_of_length-le l h, ne_eqb e (4 ^ n) p)
+  short h p = let g : length l ≤ i = omega (arith, h) in rw (← h, k, drop_of_length-le l g, ne_eqb e (4 ^ n) p)
 
   module _ (h : i < length l) where
-    pub wrong : right_entry n e (get_or l i 0) ≡ false → Wrong i ≡ checked n l
+    pub wrong : right_entry n e (get_or l i 0) ≡ false → Err i ≡ checked n l
     unfolding checked_from
     wrong p = rw (k, drop-cons l i 0 h, p)
 

@@ -1,8 +1,6 @@
 -- The check of a list: the position of the first wrong entry, or the length if the list stops short.
-use Rattle.std.specs.Prelude.{Bool, ◌&&◌, cond, List, [], ◌∷◌, ℕ, suc, ◌%◌, ◌^◌, leb, ltb, eqb}
+use Rattle.std.specs.Prelude.{Bool, ◌&&◌, cond, List, [], ◌∷◌, ℕ, suc, ◌%◌, ◌^◌, leb, ltb, eqb, Result, Ok, Err}
 use Rattle.tiling.specs.Leaf.{code_of, level_of, end_of}
-use Rattle.tiling.specs.declared.Checked.{Checked}
-use Rattle.tiling.specs.declared.Checked.TheVariants.{Tiles, Wrong}
 
 -- the test that entry w is right in a map of size n, after entries that end at e
 abbrev pub right_entry : ℕ → ℕ → ℕ → Bool
@@ -13,9 +11,9 @@ abbrev pub right_end : ℕ → ℕ → ℕ → ℕ
 right_end n e w = cond (right_entry n e w) (end_of w) 0
 
 -- the rest of a list, after i entries that are right and end at e
-unfoldable pub checked_from : ℕ → ℕ → ℕ → List ℕ → Checked
-checked_from n e i [] = cond (eqb e (4 ^ n)) Tiles (Wrong i)
-checked_from n e i (w ∷ ws) = cond (right_entry n e w) (checked_from n (end_of w) (suc i) ws) (Wrong i)
+unfoldable pub checked_from : ℕ → ℕ → ℕ → List ℕ → Result (Unit {0}) ℕ
+checked_from n e i [] = cond (eqb e (4 ^ n)) (Ok tt) (Err i)
+checked_from n e i (w ∷ ws) = cond (right_entry n e w) (checked_from n (end_of w) (suc i) ws) (Err i)
 
-abbrev pub checked : ℕ → List ℕ → Checked
+abbrev pub checked : ℕ → List ℕ → Result (Unit {0}) ℕ
 checked n l = checked_from n 0 0 l

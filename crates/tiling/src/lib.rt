@@ -76,36 +76,25 @@ fn right_end(n: u64, whole: u64, end: u64, w: u64) -> u64
     end + area
 }
 
-// What the check of a list finds.
-#[derive(Clone, Copy)]
-pub enum Checked {
-    // The list is well formed.
-    Tiles,
-    // The position of the first wrong entry, or the length if the list stops short.
-    Wrong(usize),
-}
-
-// The check of a list for a map of size n.
-pub fn check(n: u64, list: &[u64]) -> Checked
+// The check of a list for a map of size n. What is wrong is the position of the first wrong entry, or the length if the list stops short.
+pub fn check(n: u64, list: &[u64]) -> Result<(), usize>
     requires { n ≤ highest }
     ensures { result ≡ checked n list.now }
 {
     let whole = morton::area(n);
     let mut end: u64 = 0;
-    let mut i: usize = 0;
     // the entries before i are right, and end at `end`
-    while i < list.len() {
-        let next = right_end(n, whole, end, list[i]);
+    for (i, w) in list.iter().enumerate() {
+        let next = right_end(n, whole, end, *w);
         if next == 0 {
-            return Checked::Wrong(i);
+            return Err(i);
         }
         end = next;
-        i += 1;
     }
     if end == whole {
-        Checked::Tiles
+        Ok(())
     } else {
-        Checked::Wrong(i)
+        Err(list.len())
     }
 }
 

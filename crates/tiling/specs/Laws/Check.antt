@@ -1,11 +1,10 @@
 -- The check accepts exactly the well formed lists.
-use Rattle.std.specs.Prelude.{◌≡◌, refl, Bool, true, false, ◌&&◌, cond, List, [], ◌∷◌, ℕ, suc, ◌%◌, ◌^◌, leb, ltb, eqb}
+use Rattle.std.specs.Prelude.{◌≡◌, refl, Bool, true, false, ◌&&◌, cond, List, [], ◌∷◌, ℕ, suc, ◌%◌, ◌^◌, leb, ltb, eqb, Ok, Err}
 use Rattle.std.proofs.Math.Nat.{one-le-pow}
 use Rattle.std.proofs.Common.{arith, leb-true, eqb-true, ltb-true, le-leb, eq-eqb, lt-ltb}
 use Rattle.tiling.specs.Leaf.{code_of, level_of, end_of}
 use Rattle.tiling.specs.WellFormed.{Right, WellFormed}
 use Rattle.tiling.specs.Check.{right_entry, right_end, checked_from, checked}
-use Rattle.tiling.specs.declared.Checked.TheVariants.{Tiles, Wrong}
 use Rattle.tiling.specs.Laws.Tests.{and_both, both_and}
 use Rattle.tiling.specs.Laws.Run.{Run, run_formed, formed_run}
 
@@ -49,27 +48,27 @@ ends_wrong n e w r h k = go (right_entry n e w) refl h
     go true q x = absurd (omega (arith, one-le-pow (level_of w) 4 (omega arith)))
     go false q x = q
 
-tiles_run : (n e i : ℕ) (l : List ℕ) → checked_from n e i l ≡ Tiles → Run n e l (4 ^ n)
+tiles_run : (n e i : ℕ) (l : List ℕ) → checked_from n e i l ≡ Ok tt → Run n e l (4 ^ n)
 unfolding checked_from
 tiles_run n e i [] h = go (eqb e (4 ^ n)) refl h
   where
-    go : (b : Bool) → eqb e (4 ^ n) ≡ b → cond b Tiles (Wrong i) ≡ Tiles → e ≡ 4 ^ n
+    go : (b : Bool) → eqb e (4 ^ n) ≡ b → cond b (Ok (tt {0})) (Err i) ≡ Ok tt → e ≡ 4 ^ n
     go true q x = eqb-true e (4 ^ n) q
     go false q x = let z : ◌≡◌ {A = ℕ} 0 1 = cc in absurd (omega arith)
 tiles_run n e i (w ∷ ws) h = go (right_entry n e w) refl h (tiles_run n (end_of w) (suc i) ws)
   where
-    go : (b : Bool) → right_entry n e w ≡ b → cond b (checked_from n (end_of w) (suc i) ws) (Wrong i) ≡ Tiles
-        → (checked_from n (end_of w) (suc i) ws ≡ Tiles → Run n (end_of w) ws (4 ^ n)) → Right n e w × Run n (end_of w) ws (4 ^ n)
+    go : (b : Bool) → right_entry n e w ≡ b → cond b (checked_from n (end_of w) (suc i) ws) (Err i) ≡ Ok tt
+        → (checked_from n (end_of w) (suc i) ws ≡ Ok tt → Run n (end_of w) ws (4 ^ n)) → Right n e w × Run n (end_of w) ws (4 ^ n)
     go true q x f = (entry_right n e w q, f x)
     go false q x f = let z : ◌≡◌ {A = ℕ} 0 1 = cc in absurd (omega arith)
 
-run_tiles : (n e i : ℕ) (l : List ℕ) → Run n e l (4 ^ n) → checked_from n e i l ≡ Tiles
+run_tiles : (n e i : ℕ) (l : List ℕ) → Run n e l (4 ^ n) → checked_from n e i l ≡ Ok tt
 unfolding checked_from
 run_tiles n e i [] r = rw (eq-eqb e (4 ^ n) r)
 run_tiles n e i (w ∷ ws) r = rw (right_entry_lem n e w r.0) (run_tiles n (end_of w) (suc i) ws r.1)
 
-pub tiles_formed : (n : ℕ) (l : List ℕ) → checked n l ≡ Tiles → WellFormed n l
+pub tiles_formed : (n : ℕ) (l : List ℕ) → checked n l ≡ Ok tt → WellFormed n l
 tiles_formed n l h = run_formed (tiles_run n 0 _ l h)
 
-pub formed_tiles : (n : ℕ) (l : List ℕ) → WellFormed n l → checked n l ≡ Tiles
+pub formed_tiles : (n : ℕ) (l : List ℕ) → WellFormed n l → checked n l ≡ Ok tt
 formed_tiles n l f = run_tiles n 0 _ l (formed_run f)
