@@ -8,4 +8,4 @@ pub mod search;
 pub mod square;
 
 pub use search::{colour_in, find};
-pub use square::{ask, biased};
+pub use square::{Square, ask, biased};

@@ -1,5 +1,6 @@
 pub mod Leaf
 pub mod WellFormed
+pub mod IsMap
 pub mod Map
 pub mod Check
 pub mod Laws

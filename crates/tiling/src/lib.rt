@@ -9,7 +9,10 @@ ghost use Rattle.morton.specs.Code.{code};
 ghost use Rattle.morton.specs.Power.{highest};
 ghost use Rattle.tiling.specs.Leaf.{leaf, code_of, level_of, colour_of, end_of};
 ghost use Rattle.tiling.specs.Map.{within, inside};
+ghost use Rattle.tiling.specs.IsMap.{IsMap};
 ghost use Rattle.tiling.specs.Check.{right_end, checked};
+
+use morton::Spread;
 
 // The largest size of a map.
 pub const LIMIT: u64 = 12;
@@ -76,6 +79,14 @@ fn right_end(n: u64, whole: u64, end: u64, w: u64) -> u64
     end + area
 }
 
+// A map of size n: the list of its leaves, which is well formed.
+#[derive(Clone, Copy)]
+pub struct Map<'a> {
+    pub n: u64,
+    pub list: &'a [u64],
+    pub ghost is: { IsMap n list.now },
+}
+
 // The check of a list for a map of size n. What is wrong is the position of the first wrong entry, or the length if the list stops short.
 pub fn check(n: u64, list: &[u64]) -> Result<(), usize>
     requires { n ≤ highest }
@@ -122,6 +133,6 @@ pub fn cell_code(n: u64, row: i64, column: i64) -> u64
     requires { (n ≤ highest) × (inside n row column ≡ true) }
     ensures { result ≡ code (nat_abs row) (nat_abs column) }
 {
-    let table = morton::spreads();
-    morton::code_of(row as u64, column as u64, &table)
+    let spread = Spread::new();
+    spread.code_of(row as u64, column as u64)
 }

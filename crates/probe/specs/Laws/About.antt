@@ -123,10 +123,10 @@ module _ (n : ℕ) (l : List ℕ) (row column level : ℕ) where
 
   -- within the map: the square is that at the row and the column without the bias
   module _ (inner : rimb row column (2 ^ level) (bias + 2 ^ n) ≡ false) where
-    pub inner-within : About n l row column level → Within n l (row - bias) (column - bias) level
-    inner-within h =
+    pub inner-within : Within n (row - bias) (column - bias) level
+    inner-within =
         let b = inner_bounds row column (2 ^ level) (bias + 2 ^ n) inner in
-        record { size = h.size; formed = h.formed; rows = omega arith; columns = omega arith }
+        record { rows = omega arith; columns = omega arith }
 
     pub inner_tells : (s : Seen) → Tells (cell_at l) (row - bias) (column - bias) level s → Tells (cell_about n l) row column level s
     inner_tells (one c) t =

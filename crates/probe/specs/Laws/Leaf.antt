@@ -8,6 +8,7 @@ use Rattle.morton.specs.Laws.Code.{code_inside}
 use Rattle.morton.specs.Laws.Power.{exponent_le}
 use Rattle.morton.specs.Laws.Square.{stays, within, quotient, square_block}
 use Rattle.tiling.specs.Leaf.{code_of, level_of, colour_of}
+use Rattle.tiling.specs.IsMap.{IsMap}
 use Rattle.tiling.specs.Laws.Tests.{and_both}
 use Rattle.probe.specs.Search.{Spans, Found}
 use Rattle.probe.specs.Seen.{Shows, Covers}
@@ -21,12 +22,12 @@ coarser L m a b le e =
     let p : 2 ^ m ≡ 2 ^ L * 2 ^ (m - L) = ap (λ (x : ℕ). 2 ^ x) s ∙ pow-add 2 L (m - L) in
     rw (p, ← div-div-eq-div-mul a (2 ^ L) (2 ^ (m - L)), ← div-div-eq-div-mul b (2 ^ L) (2 ^ (m - L)), e)
 
-module _ (n : ℕ) (l : List ℕ) (row column : ℕ) (h : Cell n l row column) where
+module _ (n : ℕ) (l : List ℕ) (row column : ℕ) (z : IsMap n l) (h : Cell n row column) where
   pub cell_bits : (row < 2 ^ 16) × (column < 2 ^ 16)
-  cell_bits = let q : 2 ^ n ≤ 2 ^ 15 = pow_mono h.size in omega (arith, h.row_in, h.column_in)
+  cell_bits = let q : 2 ^ n ≤ 2 ^ 15 = pow_mono z.size in omega (arith, h.row_in, h.column_in)
 
   pub cell_spans : Spans l (code row column)
-  cell_spans = record { size = n; formed = h.formed; inside = code_inside n row column (omega (arith, h.size)) h.row_in h.column_in }
+  cell_spans = record { size = n; formed = z.formed; inside = code_inside n row column (omega (arith, z.size)) h.row_in h.column_in }
 
   module _ (at : ℕ) (f : Found l (code row column) at) where
     -- a cell in the leaf's aligned square has the leaf's colour
@@ -35,11 +36,11 @@ module _ (n : ℕ) (l : List ℕ) (row column : ℕ) (h : Cell n l row column) w
     leaf_cell r c hr hc =
         let w = get_or l at 0 in
         let m = level_of w in
-        let g = found_right n l h.formed (code row column) at f in
-        let same : code r c / 4 ^ m ≡ code row column / 4 ^ m = square_block 16 m row column r c (omega (arith, g.level, h.size)) hr hc in
+        let g = found_right n l z.formed (code row column) at f in
+        let same : code r c / 4 ^ m ≡ code row column / 4 ^ m = square_block 16 m row column r c (omega (arith, g.level, z.size)) hr hc in
         let q : code row column / 4 ^ m ≡ code_of w / 4 ^ m = within (code row column) (code_of w) (4 ^ m) g.aligned f.begins f.ends in
         let in_leaf = quotient (code r c) (code_of w) (4 ^ m) (one-le-pow m 4 (omega arith)) g.aligned (same ∙ q) in
-        found_colour n l h.formed (code r c) at (record { listed = f.listed; begins = in_leaf.0; ends = in_leaf.1 })
+        found_colour n l z.formed (code r c) at (record { listed = f.listed; begins = in_leaf.0; ends = in_leaf.1 })
 
     -- a leaf of the level at least covers the aligned square of its cell
     pub leaf_covers : (level k : ℕ) → colour_of (get_or l at 0) ≡ k → level ≤ level_of (get_or l at 0) → Covers (cell_at l) row column level k
@@ -58,12 +59,12 @@ module _ (n : ℕ) (l : List ℕ) (row column : ℕ) (h : Cell n l row column) w
           leaf_cell (row + i) (column + j) (stays row i (2 ^ level) _ a hi) (stays column j (2 ^ level) _ b hj);
     }
 
-module _ (n : ℕ) (l : List ℕ) (row column level : ℕ) (h : Within n l row column level) where
+module _ (n row column level : ℕ) (h : Within n row column level) where
   pub level_le : level ≤ n
   level_le = exponent_le level n (omega (arith, h.rows))
 
-  pub first_cell : Cell n l row column
-  first_cell = record { size = h.size; formed = h.formed; row_in = omega (arith, h.rows, pow_pos level); column_in = omega (arith, h.columns, pow_pos level) }
+  pub first_cell : Cell n row column
+  first_cell = record { row_in = omega (arith, h.rows, pow_pos level); column_in = omega (arith, h.columns, pow_pos level) }
 
 -- the test that a square stays within the leaf's; a single cell does
 pub stays_both : (r c s b : ℕ) → (leb (r % b + s) b && leb (c % b + s) b) ≡ true → (r % b + s ≤ b) × (c % b + s ≤ b)

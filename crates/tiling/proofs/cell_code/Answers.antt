@@ -18,7 +18,7 @@ pub code_of-requires : goal.code_of-requires
 code_of-requires c =
     let h = inside_both c.args.n c.args.row c.args.column c.requires.1 in
     rw (back c.ranges.row, back c.ranges.column)
-    (within-bits c.args.n c.args.row c.requires.0 h.0, within-bits c.args.n c.args.column c.requires.0 h.1, c.spreads-table.ensures)
+    (within-bits c.args.n c.args.row c.requires.0 h.0, within-bits c.args.n c.args.column c.requires.0 h.1)
 
 pub returns : goal.returns
 returns c =

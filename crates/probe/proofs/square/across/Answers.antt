@@ -5,4 +5,4 @@ use Rattle.probe.specs.Laws.Leaf.{level_le}
 use Rattle.probe.proofs.square.across.Goals as goal
 
 pub side-side-requires : goal.side-side-requires
-side-side-requires c = omega (arith, level_le _ _ _ _ _ c.requires.1.within, c.requires.1.within.size)
+side-side-requires c = omega (arith, level_le _ _ _ _ c.requires.within, c.args.map.now.is.size)

@@ -6,10 +6,10 @@ use Rattle.probe.specs.Laws.Leaf.{cell_bits, cell_spans, leaf_covers}
 use Rattle.probe.proofs.square.corner.Goals as goal
 
 pub code_of-requires : goal.code_of-requires
-code_of-requires c = let p = c.requires in let k = cell_bits _ _ _ _ p.1 in (k.0, k.1, p.0)
+code_of-requires c = cell_bits _ _ _ _ c.args.map.now.is c.requires
 
 pub find-requires : goal.find-requires
-find-requires c = rw c.code_of.ensures (cell_spans _ _ _ _ c.requires.1)
+find-requires c = rw c.code_of.ensures (cell_spans _ _ _ _ c.args.map.now.is c.requires)
 
 pub returns-then-colour_of-colour : goal.returns-then-colour_of-colour
 returns-then-colour_of-colour c = λ e. absurd (false≢true e)
@@ -17,5 +17,5 @@ returns-then-colour_of-colour c = λ e. absurd (false≢true e)
 pub returns : goal.returns
 returns c =
     λ e.
-    leaf_covers _ _ _ _ c.requires.1 _ (rw c.code_of.ensures at c.find.ensures) _ _
-    (sym c.colour_of.ensures ∙ c.if-colour_of-colour.false) (rw c.level_of.ensures at (leb-true c.args.level c.level_of.result e))
+    leaf_covers _ _ _ _ c.args.map.now.is c.requires _ (rw c.code_of.ensures at c.find.ensures) _ _
+    (sym c.colour_of.ensures ∙ c.if-colour_of-colour.false) (rw c.level_of.ensures at (leb-true c.args.at.level c.level_of.result e))

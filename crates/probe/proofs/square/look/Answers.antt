@@ -15,56 +15,54 @@ use Rattle.probe.proofs.square.look.Goals as goal
 
 -- the leaf that was found, and that it is a block of the square
 found : (c : After-find-at) →
-    let a = c.args in
-    Found a.list.now (code a.row a.column) c.find-at.result
+    Found c.args.map.now.list.now (code c.args.square.row c.args.square.column) c.find-at.result
 found c = rw c.code_of.ensures at c.find-at.ensures
 
 leaf : (c : After-find-at) →
-    let a = c.args in
-    let w = get_or a.list.now c.find-at.result 0 in
-    Right a.n (code_of w) w
-leaf c = found_right _ _ c.requires.1.formed _ _ (found c)
+    let m = c.args.map.now in
+    let w = get_or m.list.now c.find-at.result 0 in
+    Right m.n (code_of w) w
+leaf c = found_right _ _ c.args.map.now.is.formed _ _ (found c)
 
 pub code_of-requires : goal.code_of-requires
-code_of-requires c = let k = cell_bits _ _ _ _ (first_cell _ _ _ _ _ c.requires.1) in (k.0, k.1, c.requires.0)
+code_of-requires c = cell_bits _ _ _ _ c.args.map.now.is (first_cell _ _ _ _ c.requires)
 
 pub find-at-requires : goal.find-at-requires
-find-at-requires c = rw c.code_of.ensures (cell_spans _ _ _ _ (first_cell _ _ _ _ _ c.requires.1))
+find-at-requires c = rw c.code_of.ensures (cell_spans _ _ _ _ c.args.map.now.is (first_cell _ _ _ _ c.requires))
 
 pub side-leaf_side-requires : goal.side-leaf_side-requires
-side-leaf_side-requires c = omega (arith, (leaf (goal.at.side-leaf_side-requires c).After-find-at).level, c.level_of-leaf_level.ensures, c.requires.1.size)
+side-leaf_side-requires c = omega (arith, (leaf (goal.at.side-leaf_side-requires c).After-find-at).level, c.level_of-leaf_level.ensures, c.args.map.now.is.size)
 
 pub side-side-requires : goal.side-side-requires
-side-side-requires c = omega (arith, level_le _ _ _ _ _ c.requires.1, c.requires.1.size)
+side-side-requires c = omega (arith, level_le _ _ _ _ c.requires, c.args.map.now.is.size)
 
 pub overflow_add-row : goal.overflow_add-row
 overflow_add-row c =
     let a = c.args in
-    omega (arith, mod-le a.row c.side-leaf_side.result, cell_bits _ _ _ _ (first_cell _ _ _ _ _ c.requires.1))
+    omega (arith, mod-le a.square.row c.side-leaf_side.result, cell_bits _ _ _ _ c.args.map.now.is (first_cell _ _ _ _ c.requires))
 
 pub overflow_add-column : goal.overflow_add-column
 overflow_add-column c =
     let a = c.args in
-    omega (arith, mod-le a.column c.side-leaf_side.result, cell_bits _ _ _ _ (first_cell _ _ _ _ _ c.requires.1))
+    omega (arith, mod-le a.square.column c.side-leaf_side.result, cell_bits _ _ _ _ c.args.map.now.is (first_cell _ _ _ _ c.requires))
 
 pub returns-then-row-leaf_side : goal.returns-then-row-leaf_side
 returns-then-row-leaf_side c =
     let a = c.args in
-    let f = stays_both a.row a.column c.side-side.result c.side-leaf_side.result c.if-row-leaf_side.true in
+    let f = stays_both a.square.row a.square.column c.side-side.result c.side-leaf_side.result c.if-row-leaf_side.true in
     let b = c.side-leaf_side.ensures.is in
     let s = c.side-side.ensures.is in
     let m = c.level_of-leaf_level.ensures in
     tells_one _ _ _ _ c.colour_of-colour.result (omega (arith, c.colour_of-colour.ensures))
-    (rw c.colour_of-colour.ensures (leaf_shows _ _ _ _ (first_cell _ _ _ _ _ c.requires.1) _ (found (goal.at.returns-then-row-leaf_side c).After-find-at) _ (rw (b, s, m) at f.0) (rw (b, s, m) at f.1)))
+    (rw c.colour_of-colour.ensures (leaf_shows _ _ _ _ c.args.map.now.is (first_cell _ _ _ _ c.requires) _ (found (goal.at.returns-then-row-leaf_side c).After-find-at) _ (rw (b, s, m) at f.0) (rw (b, s, m) at f.1)))
 
 pub across-requires : goal.across-requires
 across-requires c =
     let p = c.requires in (
-      p.0,
-      record {
-        within = p.1;
-        first = leaf_covers _ _ _ _ (first_cell _ _ _ _ _ p.1) _ (found (goal.at.across-requires c).After-find-at) _ _ (sym c.colour_of-colour.ensures) (omega (arith, c.level_of-leaf_level.ensures));
-      },
+    record {
+      within = p;
+      first = leaf_covers _ _ _ _ c.args.map.now.is (first_cell _ _ _ _ p) _ (found (goal.at.across-requires c).After-find-at) _ _ (sym c.colour_of-colour.ensures) (omega (arith, c.level_of-leaf_level.ensures));
+    }
     )
 
 pub returns-then-across : goal.returns-then-across

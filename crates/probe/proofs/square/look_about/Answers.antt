@@ -11,30 +11,31 @@ pub returns-then-row-side : goal.returns-then-row-side
 returns-then-row-side c = beyond_shows _ _ _ _ _ (rw (c.side-side.ensures.is, c.side-end.ensures.is) at c.if-row-side.true)
 
 -- past the first test the square is not wholly beyond, and past the second it is within the map
-apart : (c : Else-row-side) → let a = c.args in beyondb a.row a.column (2 ^ a.level) (bias + 2 ^ a.n) ≡ false
+apart : (c : Else-row-side) → let q = c.args.square in beyondb q.row q.column (2 ^ q.level) (bias + 2 ^ c.args.map.now.n) ≡ false
 apart c = rw (c.side-side.ensures.is, c.side-end.ensures.is) at c.if-row-side.false
 
-inner : (c : Else-row-column) → let a = c.args in rimb a.row a.column (2 ^ a.level) (bias + 2 ^ a.n) ≡ false
+inner : (c : Else-row-column) → let q = c.args.square in rimb q.row q.column (2 ^ q.level) (bias + 2 ^ c.args.map.now.n) ≡ false
 inner c = rw (c.side-side.ensures.is, c.side-end.ensures.is) at c.if-row-column.false
 
 pub returns-then-row-column : goal.returns-then-row-column
 returns-then-row-column c =
-    tells_mixed _ _ _ _ _ c.requires.1.1
-    (rim_many c.args.n c.args.list.now _ _ _ (apart (goal.at.returns-then-row-column c).Else-row-side) (rw (c.side-side.ensures.is, c.side-end.ensures.is) at c.if-row-column.true))
+    tells_mixed _ _ _ _ _ c.requires.1
+    (rim_many c.args.map.now.n c.args.map.now.list.now _ _ _ (apart (goal.at.returns-then-row-column c).Else-row-side) (rw (c.side-side.ensures.is, c.side-end.ensures.is) at c.if-row-column.true))
 
 bounds : (c : Else-row-column) →
-    let a = c.args in
-    (bias ≤ a.row) × (bias ≤ a.column) × (a.row + 2 ^ a.level ≤ bias + 2 ^ a.n) × (a.column + 2 ^ a.level ≤ bias + 2 ^ a.n)
-bounds c = let a = c.args in inner_bounds a.row a.column (2 ^ a.level) (bias + 2 ^ a.n) (inner c)
+    let q = c.args.square in
+    let end = bias + 2 ^ c.args.map.now.n in
+    (bias ≤ q.row) × (bias ≤ q.column) × (q.row + 2 ^ q.level ≤ end) × (q.column + 2 ^ q.level ≤ end)
+bounds c = let q = c.args.square in inner_bounds q.row q.column (2 ^ q.level) (bias + 2 ^ c.args.map.now.n) (inner c)
 
-pub overflow_sub-row : goal.overflow_sub-row
-overflow_sub-row c = (bounds c).0
+pub overflow_sub-within : goal.overflow_sub-within
+overflow_sub-within c = (bounds c).0
 
-pub overflow_sub-column : goal.overflow_sub-column
-overflow_sub-column c = (bounds c).1
+pub overflow_sub-within-2 : goal.overflow_sub-within-2
+overflow_sub-within-2 c = (bounds c).1
 
 pub look-requires : goal.look-requires
-look-requires c = (c.requires.0, inner-within _ _ _ _ _ (inner c) c.requires.1.0)
+look-requires c = inner-within _ c.args.map.now.list.now _ _ _ (inner c)
 
 pub returns : goal.returns
 returns c = inner_tells _ _ _ _ _ (inner (goal.at.returns c).Else-row-column) (seen_of c.look.result) c.look.ensures
