@@ -13,13 +13,13 @@ pub struct Block {
     pub ghost is: { IsBlock code row column level },
 }
 
-// The quarters of a block, in the order of their codes.
+// One thing for each quarter of a block, in the order of their codes.
 #[derive(Clone, Copy, Debug, PartialEq, Eq)]
-pub struct Quarters {
-    pub nw: Block,
-    pub ne: Block,
-    pub sw: Block,
-    pub se: Block,
+pub struct Four<T> {
+    pub nw: T,
+    pub ne: T,
+    pub sw: T,
+    pub se: T,
 }
 
 impl Block {
@@ -37,7 +37,7 @@ impl Block {
     }
 
     // The quarters of a block that is no single cell.
-    pub fn quarters(self) -> Quarters
+    pub fn quarters(self) -> Four<Block>
         requires { 0 < self.level }
         ensures nw { Quartered self.code self.row self.column (self.level - 1) 0 0 result.nw.code result.nw.row result.nw.column result.nw.level }
         ensures ne { Quartered self.code self.row self.column (self.level - 1) 0 1 result.ne.code result.ne.row result.ne.column result.ne.level }
@@ -52,6 +52,6 @@ impl Block {
         let ne = Block { code: code + area, row, column: east, level };
         let sw = Block { code: code + 2 * area, row: south, column, level };
         let se = Block { code: code + 3 * area, row: south, column: east, level };
-        Quarters { nw, ne, sw, se }
+        Four { nw, ne, sw, se }
     }
 }

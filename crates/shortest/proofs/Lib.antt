@@ -7,3 +7,4 @@ pub mod Part
 pub mod Written
 pub mod Quarters
 pub mod Same
+pub mod Steps

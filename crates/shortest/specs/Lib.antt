@@ -3,4 +3,5 @@ pub mod Demand
 pub mod Part
 pub mod Outcome
 pub mod Written
+pub mod Walk
 pub mod Laws

@@ -13,7 +13,12 @@ ghost use Rattle.morton.specs.Power.{highest};
 ghost use Rattle.shortest.specs.Part.{size_of, merge, joined};
 ghost use Rattle.shortest.specs.Written.{filled, settled, finished, Fills, Settles, Finishes};
 
+use morton::Four;
 use tiling::COLOURS;
+
+mod walk;
+
+pub use walk::{Picture, Seen, count, put};
 
 // The leaves that a part comes to.
 pub fn size(p: u64) -> u64
@@ -25,35 +30,24 @@ pub fn size(p: u64) -> u64
     p - COLOURS
 }
 
-// The parts of a block's four quarters.
-#[derive(Clone, Copy, Debug, PartialEq, Eq)]
-pub struct Parts {
-    pub nw: u64,
-    pub ne: u64,
-    pub sw: u64,
-    pub se: u64,
+// Whether four quarters are of one colour.
+#[tactic(auto, unfolding(crate::specs::Part::merge))]
+fn merge(parts: Four<u64>) -> bool
+    ensures { result ≡ merge parts.nw parts.ne parts.sw parts.se }
+{
+    let first = parts.nw;
+    (first < COLOURS) & (parts.ne == first) & (parts.sw == first) & (parts.se == first)
 }
 
-impl Parts {
-    // Whether they are of one colour.
-    #[tactic(auto, unfolding(crate::specs::Part::merge))]
-    fn merge(self) -> bool
-        ensures { result ≡ merge self.nw self.ne self.sw self.se }
-    {
-        let first = self.nw;
-        (first < COLOURS) & (self.ne == first) & (self.sw == first) & (self.se == first)
+// The part of a block, from its quarters'.
+pub fn joined(parts: Four<u64>) -> u64
+    requires { size_of parts.nw + size_of parts.ne + size_of parts.sw + size_of parts.se ≤ 4 ^ highest }
+    ensures { result ≡ joined parts.nw parts.ne parts.sw parts.se }
+{
+    if merge(parts) {
+        return parts.nw;
     }
-
-    // The part of the block.
-    pub fn joined(self) -> u64
-        requires { size_of self.nw + size_of self.ne + size_of self.sw + size_of self.se ≤ 4 ^ highest }
-        ensures { result ≡ joined self.nw self.ne self.sw self.se }
-    {
-        if self.merge() {
-            return self.nw;
-        }
-        COLOURS + (size(self.nw) + size(self.ne) + size(self.sw) + size(self.se))
-    }
+    COLOURS + (size(parts.nw) + size(parts.ne) + size(parts.sw) + size(parts.se))
 }
 
 // Stores a part that is one colour as the leaf of its block.
@@ -68,7 +62,7 @@ pub fn fill(out: &mut [u64], at: u64, p: u64, code: u64, level: u64)
 }
 
 // Stores those of a block's quarters that are of one colour, each at its place.
-fn settle(out: &mut [u64], at: u64, parts: Parts, code: u64, level: u64)
+fn settle(out: &mut [u64], at: u64, parts: Four<u64>, code: u64, level: u64)
     requires { Settles out.old at parts.nw parts.ne parts.sw parts.se code level }
     ensures { out.new ≡ settled out.old at parts.nw parts.ne parts.sw parts.se code level }
 {
@@ -84,12 +78,12 @@ fn settle(out: &mut [u64], at: u64, parts: Parts, code: u64, level: u64)
 
 // The part of a block, from its quarters', which are of the level. Unless the four merge, those of one colour are stored.
 #[tactic(auto, using(crate::specs::Laws::Written::finished_one))]
-pub fn finish(out: &mut [u64], at: u64, parts: Parts, code: u64, level: u64) -> u64
+pub fn finish(out: &mut [u64], at: u64, parts: Four<u64>, code: u64, level: u64) -> u64
     requires { Finishes out.old at parts.nw parts.ne parts.sw parts.se code level }
     ensures part { result ≡ joined parts.nw parts.ne parts.sw parts.se }
     ensures left { out.new ≡ finished out.old at parts.nw parts.ne parts.sw parts.se code level }
 {
-    let part = parts.joined();
+    let part = joined(parts);
     if part < COLOURS {
         return part;
     }

@@ -1,0 +1,109 @@
+// The walk down a picture, over a raster or over maps: by recursion over a block whose level falls by one, once to count and once to write.
+use super::{finish, joined, size};
+use morton::Four;
+
+// What is seen of a block: the part that it comes to; or that its quarters are to be looked at, with what is known of them.
+#[derive(Clone, Copy)]
+pub enum Seen<B> {
+    Part(u64),
+    Closer(B),
+}
+
+// A picture that can be looked at block by block.
+pub trait Picture {
+    ghost use Rattle.std.specs.Prelude.{◌≡◌, ℕ, ◌+◌, ◌^◌, ◌<◌, ◌≤◌};
+    ghost use Rattle.std.proofs.lemmas.List.Edits.{sets};
+    ghost use Rattle.morton.specs.Power.{highest};
+    ghost use Rattle.tiling.specs.Leaf.{colours};
+    ghost use Rattle.shortest.specs.Part.{part};
+    ghost use Rattle.shortest.specs.Written.{inner, Placed};
+    ghost use Rattle.shortest.specs.Walk.{Sees, Quarter};
+
+    // A block, and whatever is known of it.
+    type Block: Copy;
+
+    // The colour of each code.
+    ghost colour_at: { Self → ℕ → ℕ };
+
+    ghost code_of: { Self.Block → ℕ };
+
+    ghost level_of: { Self.Block → ℕ };
+
+    // It is a block of the picture, and what is known of it is right.
+    ghost Lies: { Self → Self.Block → Type 0 };
+
+    fn code(block: Self::Block) -> u64
+        ensures { result ≡ code_of block };
+
+    fn level(block: Self::Block) -> u64
+        ensures { result ≡ level_of block };
+
+    // What is seen of a block.
+    fn look(&self, block: Self::Block) -> Seen<Self::Block>
+        requires { Lies self.now block }
+        ensures { Sees result (λ p. p ≡ part (colour_at self.now) (level_of block) (code_of block)) (λ b. (0 < level_of block) × (level_of b ≡ level_of block) × (code_of b ≡ code_of block) × Lies self.now b) };
+
+    // The same, and the list of a block whose part is seen is written from `at` on, or nothing if it is of one colour.
+    fn draw(&self, block: Self::Block, out: &mut [u64], at: u64) -> Seen<Self::Block>
+        requires { Lies self.now block × Placed (colour_at self.now) out.old at (level_of block) (code_of block) }
+        ensures seen { Sees result (λ p. p ≡ part (colour_at self.now) (level_of block) (code_of block)) (λ b. (0 < level_of block) × (level_of b ≡ level_of block) × (code_of b ≡ code_of block) × Lies self.now b) }
+        ensures left { Sees result (λ p. out.new ≡ sets out.old at (inner (colour_at self.now) (level_of block) (code_of block))) (λ b. out.new ≡ out.old) };
+
+    // The quarters of a block that is no single cell.
+    fn quarters(&self, block: Self::Block) -> Four<Self::Block>
+        requires { Lies self.now block × (0 < level_of block) }
+        ensures nw { Lies self.now result.nw × Quarter (code_of block) (level_of block) 0 (code_of result.nw) (level_of result.nw) }
+        ensures ne { Lies self.now result.ne × Quarter (code_of block) (level_of block) 1 (code_of result.ne) (level_of result.ne) }
+        ensures sw { Lies self.now result.sw × Quarter (code_of block) (level_of block) 2 (code_of result.sw) (level_of result.sw) }
+        ensures se { Lies self.now result.se × Quarter (code_of block) (level_of block) 3 (code_of result.se) (level_of result.se) };
+
+    // Colours are below 256, and a block lies within the largest square.
+    ghost coloured: { (p : Self) (b : Self.Block) → Lies p b → (k : ℕ) → colour_at p k < colours };
+
+    ghost fits: { (p : Self) (b : Self.Block) → Lies p b → (level_of b ≤ highest) × (code_of b + 4 ^ level_of b ≤ 4 ^ highest) };
+}
+
+ghost use Rattle.std.specs.Prelude.{◌≡◌};
+ghost use Rattle.std.proofs.lemmas.List.Edits.{sets};
+ghost use Rattle.shortest.specs.Part.{part};
+ghost use Rattle.shortest.specs.Written.{inner, Placed};
+
+// What a block comes to.
+pub fn count<P: Picture>(picture: &P, block: P::Block) -> u64
+    requires { P.Lies picture.now block }
+    ensures { result ≡ part (P.colour_at picture.now) (P.level_of block) (P.code_of block) }
+{
+    match picture.look(block) {
+        Seen::Part(part) => part,
+        Seen::Closer(block) => {
+            let quarter = picture.quarters(block);
+            let nw = count(picture, quarter.nw);
+            let ne = count(picture, quarter.ne);
+            let sw = count(picture, quarter.sw);
+            let se = count(picture, quarter.se);
+            joined(Four { nw, ne, sw, se })
+        }
+    }
+}
+
+// Writes the list of a block from `at` on, or nothing if it is of one colour; what the block comes to.
+pub fn put<P: Picture>(picture: &P, block: P::Block, out: &mut [u64], at: u64) -> u64
+    requires { P.Lies picture.now block × Placed (P.colour_at picture.now) out.old at (P.level_of block) (P.code_of block) }
+    ensures part { result ≡ part (P.colour_at picture.now) (P.level_of block) (P.code_of block) }
+    ensures left { out.new ≡ sets out.old at (inner (P.colour_at picture.now) (P.level_of block) (P.code_of block)) }
+{
+    match picture.draw(block, out, at) {
+        Seen::Part(part) => part,
+        Seen::Closer(block) => {
+            let quarter = picture.quarters(block);
+            let nw = put(picture, quarter.nw, out, at);
+            let at1 = at + size(nw);
+            let ne = put(picture, quarter.ne, out, at1);
+            let at2 = at1 + size(ne);
+            let sw = put(picture, quarter.sw, out, at2);
+            let at3 = at2 + size(sw);
+            let se = put(picture, quarter.se, out, at3);
+            finish(out, at, Four { nw, ne, sw, se }, P::code(block), P::level(block) - 1)
+        }
+    }
+}
