@@ -32,6 +32,9 @@ pub trait Picture {
     // It is a block of the picture, and what is known of it is right.
     ghost Lies: { Self → Self.Block → Type 0 };
 
+    // The same, of a block whose quarters are to be looked at.
+    ghost Opens: { Self → Self.Block → Type 0 };
+
     fn code(block: Self::Block) -> u64
         ensures { result ≡ code_of block };
 
@@ -41,17 +44,17 @@ pub trait Picture {
     // What is seen of a block.
     fn look(&self, block: Self::Block) -> Seen<Self::Block>
         requires { Lies self.now block }
-        ensures { Sees result (λ p. p ≡ part (colour_at self.now) (level_of block) (code_of block)) (λ b. (0 < level_of block) × (level_of b ≡ level_of block) × (code_of b ≡ code_of block) × Lies self.now b) };
+        ensures { Sees result (λ p. p ≡ part (colour_at self.now) (level_of block) (code_of block)) (λ b. (0 < level_of block) × (level_of b ≡ level_of block) × (code_of b ≡ code_of block) × Opens self.now b) };
 
     // The same, and the list of a block whose part is seen is written from `at` on, or nothing if it is of one colour.
     fn draw(&self, block: Self::Block, out: &mut [u64], at: u64) -> Seen<Self::Block>
         requires { Lies self.now block × Placed (colour_at self.now) out.old at (level_of block) (code_of block) }
-        ensures seen { Sees result (λ p. p ≡ part (colour_at self.now) (level_of block) (code_of block)) (λ b. (0 < level_of block) × (level_of b ≡ level_of block) × (code_of b ≡ code_of block) × Lies self.now b) }
+        ensures seen { Sees result (λ p. p ≡ part (colour_at self.now) (level_of block) (code_of block)) (λ b. (0 < level_of block) × (level_of b ≡ level_of block) × (code_of b ≡ code_of block) × Opens self.now b) }
         ensures left { Sees result (λ p. out.new ≡ sets out.old at (inner (colour_at self.now) (level_of block) (code_of block))) (λ b. out.new ≡ out.old) };
 
-    // The quarters of a block that is no single cell.
+    // The quarters of a block that is to be looked at closer.
     fn quarters(&self, block: Self::Block) -> Four<Self::Block>
-        requires { Lies self.now block × (0 < level_of block) }
+        requires { Opens self.now block }
         ensures nw { Lies self.now result.nw × Quarter (code_of block) (level_of block) 0 (code_of result.nw) (level_of result.nw) }
         ensures ne { Lies self.now result.ne × Quarter (code_of block) (level_of block) 1 (code_of result.ne) (level_of result.ne) }
         ensures sw { Lies self.now result.sw × Quarter (code_of block) (level_of block) 2 (code_of result.sw) (level_of result.sw) }

@@ -1,8 +1,6 @@
 -- What the functions ask that decode a tile of a map.
 use Rattle.std.specs.Prelude.{◌≡◌, cond, List, ℕ, ◌+◌, ◌-◌, ◌%◌, ◌^◌, ◌<◌, ◌≤◌, ltb}
-use Rattle.morton.specs.Power.{highest}
 use Rattle.tiling.specs.Leaf.{end_of, colours}
-use Rattle.tiling.specs.WellFormed.{WellFormed}
 use Rattle.probe.specs.Seen.{Holds, seen_of}
 use Rattle.probe.specs.Biased.{cell_about}
 use Rattle.tiles.specs.Tile.{Steps}
@@ -12,19 +10,14 @@ abbrev pub last_of : ℕ → ℕ → ℕ → ℕ
 last_of w k from = cond (ltb (end_of w - k) 256) (from + (end_of w - k)) (from + 256)
 
 -- 256 codes of a map, and places for their colours
-pub record Decodes (l : List ℕ) (k from places : ℕ) : Type 0 where
-  pub n : ℕ
-  pub size : n ≤ highest
-  pub formed : WellFormed n l
+pub record Decodes (n k from places : ℕ) : Type 0 where
   pub inside : k + 256 ≤ 4 ^ n
   pub room : from + 256 ≤ places
   pub few : places ≤ 1024
 
 -- a map that is at least as large as a tile, and a biased row and column about it that are multiples of a tile's side
-pub record Aligned (n : ℕ) (l : List ℕ) (row column : ℕ) : Type 0 where
-  pub size : n ≤ highest
+pub record Aligned (n row column : ℕ) : Type 0 where
   pub large : 4 ≤ n
-  pub formed : WellFormed n l
   pub rows : row % 16 ≡ 0
   pub columns : column % 16 ≡ 0
   pub row_lt : row < 2 ^ 21
@@ -32,8 +25,6 @@ pub record Aligned (n : ℕ) (l : List ℕ) (row column : ℕ) : Type 0 where
 
 -- a tile anywhere about a map, at a biased row and column: its colour is known, or the map is at least as large as a tile
 pub record About (n : ℕ) (l : List ℕ) (known row column : ℕ) (steps : List ℕ) : Type 0 where
-  pub size : n ≤ highest
-  pub formed : WellFormed n l
   pub holds : Holds (cell_about n l) row column 4 (seen_of known)
   pub large : colours ≤ known → 4 ≤ n
   pub row_lt : row < 2 ^ 20

@@ -2,50 +2,24 @@
 ghost use Rattle.std.specs.Prelude.{◌≡◌, ℕ, ◌+◌, ◌≤◌, ◌<◌, length, get_or};
 ghost use Rattle.morton.specs.Code.{code};
 ghost use Rattle.morton.specs.Power.{highest};
-ghost use Rattle.morton.specs.Spreads.{Spreads};
 ghost use Rattle.tiling.specs.Leaf.{end_of, level_of};
 ghost use Rattle.probe.specs.Biased.{cell_about};
 ghost use Rattle.tiles.specs.Tile.{Stored, Tile, Steps, plain, codes, tile_of};
 ghost use Rattle.tiles.specs.Decoding.{Decodes, Aligned, About, last_of};
 
+use morton::Spread;
 use probe::square::{BEYOND, BIAS};
-use tiling::COLOURS;
+use tiling::{COLOURS, Map};
 
 // The level of a tile; it has 16 cells a side, 256 in all.
 pub const LEVEL: u64 = 4;
-
-// Room for a tile.
-pub fn room() -> [u8; 256]
-    ensures { 256 ≡ length result }
-{
-    [0; 256]
-}
-
-// Room for four.
-fn room_for_four() -> [u8; 1024]
-    ensures { 1024 ≡ length result }
-{
-    [0; 1024]
-}
-
-// Room for the steps of a tile.
-fn room_for_steps() -> [u16; 256]
-    ensures { 256 ≡ length result }
-{
-    [0; 256]
-}
 
 // Stores a colour at the places from one on and before another.
 pub fn store(cells: &mut [u8], from: usize, to: usize, colour: u8)
     requires { (from ≤ to) × (to ≤ length cells.old) }
     ensures { Stored cells.old from to (plain colour) cells.new }
 {
-    let mut i = from;
-    // the places before i have the colour
-    while i < to {
-        cells[i] = colour;
-        i += 1;
-    }
+    cells[from..to].fill(colour);
 }
 
 // The same for the cells of a leaf, of which there is often only one.
@@ -73,16 +47,16 @@ fn last_of(w: u64, code: u64, from: usize) -> usize
 }
 
 // Stores the colours of the 256 codes from one on, leaf by leaf.
-pub fn decode(list: &[u64], code: u64, hint: usize, cells: &mut [u8], from: usize)
-    requires { Decodes list.now code from (length cells.old) }
-    ensures { Stored cells.old from (from + 256) (codes list.now code from) cells.new }
+pub fn decode(map: &Map, code: u64, hint: usize, cells: &mut [u8], from: usize)
+    requires { Decodes map.now.n code from (length cells.old) }
+    ensures { Stored cells.old from (from + 256) (codes map.now.list.now code from) cells.new }
 {
     let end = from + 256;
-    let mut at = probe::find(list, code, hint);
+    let mut at = probe::find(map.list, code, hint);
     let mut place = from;
     // the cells before place have their colours, and the next lies in the leaf at `at`
     while place < end {
-        let w = list[at];
+        let w = map.list[at];
         let next = last_of(w, code, from);
         run(cells, place, next, tiling::colour_of(w));
         place = next;
@@ -92,64 +66,49 @@ pub fn decode(list: &[u64], code: u64, hint: usize, cells: &mut [u8], from: usiz
 
 // Stores the cells of the aligned block at a biased row and column, which may lie beyond the map.
 fn block(
-    n: u64,
-    list: &[u64],
+    map: &Map,
+    table: &Spread,
     hint: usize,
     row: u64,
     column: u64,
     cells: &mut [u8],
     from: usize,
-    table: &[u16; 256],
 )
-    requires { Spreads table.now × Aligned n list.now row column × (from + 256 ≤ length cells.old) × (length cells.old ≤ 1024) }
-    ensures { Stored cells.old from (from + 256) (tile_of (cell_about n list.now) row column from) cells.new }
+    requires { Aligned map.now.n row column × (from + 256 ≤ length cells.old) × (length cells.old ≤ 1024) }
+    ensures { Stored cells.old from (from + 256) (tile_of (cell_about map.now.n map.now.list.now) row column from) cells.new }
 {
-    let end = BIAS + morton::side(n);
+    let end = BIAS + morton::side(map.n);
     if (row + 16 <= BIAS) | (column + 16 <= BIAS) | (end <= row) | (end <= column) {
         store(cells, from, from + 256, BEYOND as u8);
         return;
     }
-    let code = morton::code_of(row - BIAS, column - BIAS, table);
-    decode(list, code, hint, cells, from);
+    let code = table.code_of(row - BIAS, column - BIAS);
+    decode(map, code, hint, cells, from);
 }
 
 // Decodes the square of two aligned blocks a side at a biased row and column.
-fn decode_four(
-    n: u64,
-    list: &[u64],
-    hint: usize,
-    row: u64,
-    column: u64,
-    cells: &mut [u8],
-    table: &[u16; 256],
-)
-    requires { Spreads table.now × (length cells.old ≡ 1024) × Aligned n list.now row column × Aligned n list.now (row + 16) (column + 16) }
-    ensures { Tile (cell_about n list.now) row column 1024 cells.new }
+fn decode_four(map: &Map, table: &Spread, hint: usize, row: u64, column: u64, cells: &mut [u8])
+    requires { (length cells.old ≡ 1024) × Aligned map.now.n row column × Aligned map.now.n (row + 16) (column + 16) }
+    ensures { Tile (cell_about map.now.n map.now.list.now) row column 1024 cells.new }
 {
-    block(n, list, hint, row, column, cells, 0, table);
-    block(n, list, hint, row, column + 16, cells, 256, table);
-    block(n, list, hint, row + 16, column, cells, 512, table);
-    block(n, list, hint, row + 16, column + 16, cells, 768, table);
+    block(map, table, hint, row, column, cells, 0);
+    block(map, table, hint, row, column + 16, cells, 256);
+    block(map, table, hint, row + 16, column, cells, 512);
+    block(map, table, hint, row + 16, column + 16, cells, 768);
 }
 
 // Where each cell of a tile stands that lies so many rows and columns within four aligned blocks.
 #[tactic(auto, using(crate::specs::Laws::Codes::tile_cell_lem))]
-pub fn steps(row: u64, column: u64, table: &[u16; 256]) -> [u16; 256]
-    requires { Spreads table.now × (row < 16) × (column < 16) }
+pub fn steps(row: u64, column: u64, table: &Spread) -> [u16; 256]
+    requires { (row < 16) × (column < 16) }
     ensures { Steps row column result }
 {
-    let mut steps = room_for_steps();
-    let mut j: usize = 0;
+    let mut steps = [0; 256];
     // the steps before j are there
-    while j < 256 {
+    for (j, step) in steps.iter_mut().enumerate() {
         let k = j as u64;
-        let step = morton::code_of(
-            row + morton::row_of(k),
-            column + morton::column_of(k),
-            table,
-        );
-        steps[j] = step as u16;
-        j += 1;
+        let code = table.code_of(row + morton::row_of(k), column + morton::column_of(k));
+        *step = code as u16;
     }
     steps
 }
@@ -159,28 +118,24 @@ fn gather(steps: &[u16; 256], four: &[u8; 1024], cells: &mut [u8])
     requires { (length cells.old ≡ 256) × ((j : ℕ) → j < 256 → get_or steps.now j 0 < 1024) }
     ensures { (j : ℕ) → j < 256 → get_or cells.new j 0 ≡ get_or four.now (get_or steps.now j 0) 0 }
 {
-    let mut j: usize = 0;
     // the cells before j are there
-    while j < 256 {
-        let step = steps[j] as usize;
-        cells[j] = four[step];
-        j += 1;
+    for (j, cell) in cells.iter_mut().enumerate() {
+        *cell = four[steps[j] as usize];
     }
 }
 
 // Decodes the tile anywhere about a map, at a biased row and column.
 pub fn tile(
-    n: u64,
-    list: &[u64],
+    map: &Map,
+    table: &Spread,
     known: u64,
     row: u64,
     column: u64,
     steps: &[u16; 256],
     cells: &mut [u8],
-    table: &[u16; 256],
 )
-    requires { Spreads table.now × (length cells.old ≡ 256) × About n list.now known row column steps.now }
-    ensures { Tile (cell_about n list.now) row column 256 cells.new }
+    requires { (length cells.old ≡ 256) × About map.now.n map.now.list.now known row column steps.now }
+    ensures { Tile (cell_about map.now.n map.now.list.now) row column 256 cells.new }
 {
     if known < COLOURS {
         store(cells, 0, 256, known as u8);
@@ -190,10 +145,10 @@ pub fn tile(
     let down = row % 16;
     let right = column % 16;
     if (down == 0) & (right == 0) {
-        block(n, list, hint, row, column, cells, 0, table);
+        block(map, table, hint, row, column, cells, 0);
         return;
     }
-    let mut four = room_for_four();
-    decode_four(n, list, hint, row - down, column - right, &mut four, table);
+    let mut four = [0; 1024];
+    decode_four(map, table, hint, row - down, column - right, &mut four);
     gather(steps, &four, cells);
 }

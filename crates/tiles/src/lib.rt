@@ -4,11 +4,11 @@
 // leaf, since a leaf's cells stand together in the order of codes; a tile that lies across the blocks of a map is gathered from the four
 // that it touches. The list of a block is then made from its tile, with no search at all.
 //
-// Read first: specs/Tile.antt; then `tile`, which decodes, and `put`, which makes the list.
+// Read first: specs/Tile.antt; then `tile`, which decodes, and `Tile`, the picture of which the list is made.
 #![tactic(auto)]
 
 mod decoding;
 mod listing;
 
-pub use decoding::{LEVEL, decode, room, steps, store, tile};
-pub use listing::{count, put};
+pub use decoding::{LEVEL, decode, steps, store, tile};
+pub use listing::{Spot, Tile};

@@ -1,104 +1,164 @@
-// From a tile to the list of a block of it: by recursion over a block whose level falls by one, once to count and once to write.
-ghost use Rattle.std.specs.Prelude.{◌≡◌, true, ◌+◌, ◌<◌, ◌≤◌, length};
+// A tile as a picture, of which a list is made.
+ghost use Rattle.std.specs.Prelude.{◌≡◌, true, ℕ, ◌+◌, ◌^◌, ◌<◌, ◌≤◌, length, get_or};
 ghost use Rattle.std.proofs.lemmas.List.Edits.{sets};
+ghost use Rattle.morton.specs.Power.{highest};
+ghost use Rattle.tiling.specs.Leaf.{colours};
 ghost use Rattle.shortest.specs.Part.{part};
 ghost use Rattle.shortest.specs.Laws.Flat.{Flat};
-ghost use Rattle.shortest.specs.Written.{inner};
-ghost use Rattle.tiles.specs.Listing.{spots, Counts, Puts};
+ghost use Rattle.shortest.specs.Written.{inner, Placed};
+ghost use Rattle.tiles.specs.Listing.{spots, Counts};
 
-// The colour of the cell at the code k, in the tile whose first cell is at the code `first`.
-fn cell(tile: &[u8], first: u64, k: u64) -> u64
-    requires { (length tile.now ≡ 256) × (first ≤ k) × (k < first + 256) }
-    ensures { result ≡ spots tile.now first k }
-{
-    let i = (k - first) as usize;
-    tile[i] as u64
+use morton::Four;
+use shortest::{Picture, Seen};
+
+// The colours of a block of 256 codes, of which this is the first.
+#[derive(Clone, Copy)]
+pub struct Tile<'a> {
+    pub cells: &'a [u8],
+    pub first: u64,
+    pub ghost whole: { length cells.now ≡ 256 },
+    pub ghost small: { first + 256 ≤ 4 ^ highest },
+    pub ghost bytes: { (j : ℕ) → get_or cells.now j 0 < colours },
 }
 
-// Whether the cells of the block of the level at the code k are all of one colour.
-fn alike(tile: &[u8], first: u64, k: u64, level: u64) -> bool
-    requires { (length tile.now ≡ 256) × Counts first k level }
-    ensures { result ≡ true → Flat (spots tile.now first) (spots tile.now first k) level k }
-{
-    let from = (k - first) as usize;
-    let to = from + morton::area(level) as usize;
-    let colour = tile[from];
-    let mut i = from;
-    // the cells before i have the first one's colour
-    while i < to {
-        if tile[i] != colour {
-            return false;
+// A block of a tile.
+#[derive(Clone, Copy, Debug, PartialEq, Eq)]
+pub struct Spot {
+    pub code: u64,
+    pub level: u64,
+}
+
+impl<'a> Tile<'a> {
+    // The whole of it.
+    pub fn spot(&self) -> Spot
+        ensures { (result.code ≡ self.now.first) × (result.level ≡ 4) × Counts self.now.first result.code result.level }
+    {
+        Spot {
+            code: self.first,
+            level: super::LEVEL,
         }
-        i += 1;
     }
-    true
+
+    // The colour of the cell at the code k.
+    fn cell(&self, k: u64) -> u64
+        requires { (self.now.first ≤ k) × (k < self.now.first + 256) }
+        ensures { result ≡ spots self.now.cells.now self.now.first k }
+    {
+        let i = (k - self.first) as usize;
+        self.cells[i] as u64
+    }
+
+    // The colours of the four cells from the code k on.
+    fn four(&self, k: u64) -> Four<u64>
+        requires { Counts self.now.first k 1 }
+        ensures nw { result.nw ≡ spots self.now.cells.now self.now.first k }
+        ensures ne { result.ne ≡ spots self.now.cells.now self.now.first (k + 1) }
+        ensures sw { result.sw ≡ spots self.now.cells.now self.now.first (k + 2) }
+        ensures se { result.se ≡ spots self.now.cells.now self.now.first (k + 3) }
+    {
+        Four {
+            nw: self.cell(k),
+            ne: self.cell(k + 1),
+            sw: self.cell(k + 2),
+            se: self.cell(k + 3),
+        }
+    }
+
+    // Whether the cells of a block are all of one colour.
+    fn alike(&self, block: Spot) -> bool
+        requires { Counts self.now.first block.code block.level }
+        ensures { result ≡ true → Flat (spots self.now.cells.now self.now.first) (spots self.now.cells.now self.now.first block.code) block.level block.code }
+    {
+        let from = (block.code - self.first) as usize;
+        let to = from + morton::area(block.level) as usize;
+        let colour = self.cells[from];
+        self.cells[from..to].iter().all(|cell| *cell == colour)
+    }
+
+    // What four cells come to.
+    fn count_cells(&self, k: u64) -> u64
+        requires { Counts self.now.first k 1 }
+        ensures { result ≡ part (spots self.now.cells.now self.now.first) 1 k }
+    {
+        shortest::joined(self.four(k))
+    }
+
+    // Writes the list of four cells from `at` on, or nothing if they are of one colour; what they come to.
+    fn put_cells(&self, k: u64, out: &mut [u64], at: u64) -> u64
+        requires { Counts self.now.first k 1 × Placed (spots self.now.cells.now self.now.first) out.old at 1 k }
+        ensures part { result ≡ part (spots self.now.cells.now self.now.first) 1 k }
+        ensures left { out.new ≡ sets out.old at (inner (spots self.now.cells.now self.now.first) 1 k) }
+    {
+        shortest::finish(out, at, self.four(k), k, 0)
+    }
 }
 
-// What the four cells at the code k come to.
-fn count_cells(tile: &[u8], first: u64, k: u64) -> u64
-    requires { (length tile.now ≡ 256) × Counts first k 1 }
-    ensures { result ≡ part (spots tile.now first) 1 k }
-{
-    let nw = cell(tile, first, k);
-    let ne = cell(tile, first, k + 1);
-    let sw = cell(tile, first, k + 2);
-    let se = cell(tile, first, k + 3);
-    shortest::joined(nw, ne, sw, se)
-}
+impl<'a> Picture for Tile<'a> {
+    ghost use Rattle.std.specs.Prelude.{◌-◌};
+    ghost use Rattle.tiles.specs.Laws.Listing.{block_fits};
 
-// What the block of the level at the code k comes to.
-pub fn count(tile: &[u8], first: u64, k: u64, level: u64) -> u64
-    requires { (length tile.now ≡ 256) × Counts first k level }
-    ensures { result ≡ part (spots tile.now first) level k }
-{
-    if level == 1 {
-        return count_cells(tile, first, k);
-    }
-    if alike(tile, first, k, level) {
-        return cell(tile, first, k);
-    }
-    let l = level - 1;
-    let q = morton::area(l);
-    let nw = count(tile, first, k, l);
-    let ne = count(tile, first, k + q, l);
-    let sw = count(tile, first, k + 2 * q, l);
-    let se = count(tile, first, k + 3 * q, l);
-    shortest::joined(nw, ne, sw, se)
-}
+    type Block = Spot;
 
-// Writes the list of four cells from `at` on, or nothing if they are of one colour; what they come to.
-fn put_cells(tile: &[u8], first: u64, out: &mut [u64], at: u64, k: u64) -> u64
-    requires { (length tile.now ≡ 256) × Puts tile.now out.old at first k 1 }
-    ensures part { result ≡ part (spots tile.now first) 1 k }
-    ensures left { out.new ≡ sets out.old at (inner (spots tile.now first) 1 k) }
-{
-    let nw = cell(tile, first, k);
-    let ne = cell(tile, first, k + 1);
-    let sw = cell(tile, first, k + 2);
-    let se = cell(tile, first, k + 3);
-    shortest::finish(out, at, nw, ne, sw, se, k, 0)
-}
+    ghost colour_at = { λ t. spots t.cells.now t.first };
 
-// Writes the list of the block from `at` on, or nothing if it is of one colour; what the block comes to.
-pub fn put(tile: &[u8], first: u64, out: &mut [u64], at: u64, k: u64, level: u64) -> u64
-    requires { (length tile.now ≡ 256) × Puts tile.now out.old at first k level }
-    ensures part { result ≡ part (spots tile.now first) level k }
-    ensures left { out.new ≡ sets out.old at (inner (spots tile.now first) level k) }
-{
-    if level == 1 {
-        return put_cells(tile, first, out, at, k);
+    ghost code_of = { λ b. b.code };
+
+    ghost level_of = { λ b. b.level };
+
+    ghost Lies = { λ t b. Counts t.first b.code b.level };
+
+    ghost Opens = { λ t b. (1 < b.level) × Counts t.first b.code b.level };
+
+    fn code(block: Spot) -> u64
+        ensures { result ≡ block.code }
+    {
+        block.code
     }
-    if alike(tile, first, k, level) {
-        return cell(tile, first, k);
+
+    fn level(block: Spot) -> u64
+        ensures { result ≡ block.level }
+    {
+        block.level
     }
-    let l = level - 1;
-    let q = morton::area(l);
-    let nw = put(tile, first, out, at, k, l);
-    let at1 = at + shortest::size(nw);
-    let ne = put(tile, first, out, at1, k + q, l);
-    let at2 = at1 + shortest::size(ne);
-    let sw = put(tile, first, out, at2, k + 2 * q, l);
-    let at3 = at2 + shortest::size(sw);
-    let se = put(tile, first, out, at3, k + 3 * q, l);
-    shortest::finish(out, at, nw, ne, sw, se, k, l)
+
+    fn look(&self, block: Spot) -> Seen<Spot> {
+        if block.level == 1 {
+            return Seen::Part(self.count_cells(block.code));
+        }
+        if self.alike(block) {
+            return Seen::Part(self.cell(block.code));
+        }
+        Seen::Closer(block)
+    }
+
+    fn draw(&self, block: Spot, out: &mut [u64], at: u64) -> Seen<Spot> {
+        if block.level == 1 {
+            return Seen::Part(self.put_cells(block.code, out, at));
+        }
+        if self.alike(block) {
+            return Seen::Part(self.cell(block.code));
+        }
+        Seen::Closer(block)
+    }
+
+    fn quarters(&self, block: Spot) -> Four<Spot> {
+        let (k, level) = (block.code, block.level - 1);
+        let q = morton::area(level);
+        Four {
+            nw: Spot { code: k, level },
+            ne: Spot { code: k + q, level },
+            sw: Spot {
+                code: k + 2 * q,
+                level,
+            },
+            se: Spot {
+                code: k + 3 * q,
+                level,
+            },
+        }
+    }
+
+    ghost coloured = { λ t b lies k. t.bytes (k - t.first) };
+
+    ghost fits = { λ t b lies. block_fits t.first b.code b.level lies };
 }

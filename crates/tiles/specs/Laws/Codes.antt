@@ -15,6 +15,7 @@ use Rattle.probe.specs.Search.{Found}
 use Rattle.probe.specs.Laws.About.{beyondb, apart_bounds, inner_cell}
 use Rattle.probe.specs.Laws.Search.{found_colour}
 use Rattle.tiles.specs.Tile.{codes, step_to}
+use Rattle.morton.specs.Power.{highest}
 use Rattle.tiles.specs.Decoding.{last_of, Aligned}
 
 -- where a leaf's cells end among 256
@@ -133,18 +134,18 @@ pub record Inside (n row column : ℕ) : Type 0 where
   pub bottom : row + 16 ≤ bias + 2 ^ n
   pub right : column + 16 ≤ bias + 2 ^ n
 
-pub inside : (n : ℕ) (l : List ℕ) (row column : ℕ) → Aligned n l row column → beyondb row column 16 (bias + 2 ^ n) ≡ false → Inside n row column
-inside n l row column a h =
+pub inside : (n row column : ℕ) → Aligned n row column → beyondb row column 16 (bias + 2 ^ n) ≡ false → Inside n row column
+inside n row column a h =
     let b = apart_bounds row column 16 (bias + 2 ^ n) h in
     let w = (tiles_wide n a.large).0 in
     let r = a.rows in
     let c = a.columns in
     record { top = omega arith; left = omega arith; bottom = omega arith; right = omega arith }
 
-module _ (n : ℕ) (l : List ℕ) (row column : ℕ) (a : Aligned n l row column) (i : Inside n row column) where
+module _ (n : ℕ) (l : List ℕ) (row column : ℕ) (z : n ≤ highest) (a : Aligned n row column) (i : Inside n row column) where
   first_row : (row - bias < 2 ^ 15) × (column - bias < 2 ^ 15) × ((row - bias) % 16 ≡ 0) × ((column - bias) % 16 ≡ 0) × (row - bias < 2 ^ n) × (column - bias < 2 ^ n)
   first_row =
-      let q : 2 ^ n ≤ 2 ^ 15 = pow_mono a.size in
+      let q : 2 ^ n ≤ 2 ^ 15 = pow_mono z in
       (omega (arith, i.bottom), omega (arith, i.right), omega (arith, i.top, a.rows), omega (arith, i.left, a.columns), omega (arith, i.bottom), omega (arith, i.right))
 
   -- all its codes are the map's
@@ -152,7 +153,7 @@ module _ (n : ℕ) (l : List ℕ) (row column : ℕ) (a : Aligned n l row column
   inside-codes =
       let f = first_row in
       let m : code (row - bias) (column - bias) % 4 ^ 4 ≡ 0 = code_multiple 16 4 (row - bias) (column - bias) (omega arith) f.2 f.3 in
-      let k : code (row - bias) (column - bias) < 4 ^ n = code_inside n (row - bias) (column - bias) (omega (arith, a.size)) f.4 f.5 in
+      let k : code (row - bias) (column - bias) < 4 ^ n = code_inside n (row - bias) (column - bias) (omega (arith, z)) f.4 f.5 in
       let w = (tiles_wide n a.large).1 in
       omega arith
 

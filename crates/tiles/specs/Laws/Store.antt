@@ -1,11 +1,25 @@
 -- Colours stored at one place after another.
-use Rattle.std.specs.Prelude.{◌≡◌, refl, List, ℕ, ◌+◌, ◌<◌, ◌≤◌, length, set}
+use Rattle.std.specs.Prelude.{◌≡◌, refl, List, ℕ, ◌+◌, ◌<◌, ◌≤◌, length, set, replicate, take, drop, ◌-◌}
 use Rattle.std.proofs.Common.{sym, ◌∙◌, arith, get_or-set_same, get_or-set_other}
+use Rattle.std.proofs.Common.{rules}
+use Rattle.std.proofs.lemmas.List.{places}
+use borrow.Rule.Slice.PartMut.{put_mid}
 use Rattle.std.proofs.Math.Decide.{dec_lt}
 use Rattle.tiles.specs.Tile.{Stored, plain}
 
 pub stored_none : (l : List ℕ) (from : ℕ) (h : ℕ → ℕ) → Stored l from from h l
 stored_none l from h = record { ahead = λ i h. refl; among = λ i a b. absurd (omega arith); behind = λ i h. refl }
+
+-- a colour at every place of a part
+pub stored_filled : (l : List ℕ) (from to colour : ℕ) (m : List ℕ) → from ≤ to → to ≤ length l → m ≡ replicate (length (take (to - from) (drop from l))) colour
+    → Stored l from to (plain colour) (put_mid from (to - from) l m)
+stored_filled l from to colour m a b e =
+    let n : length (take (to - from) (drop from l)) ≡ to - from = search (rules, places) in
+    record {
+      ahead = λ i h. rw (e, n) (search (rules, places));
+      among = λ i h k. rw (e, n) (search (rules, places));
+      behind = λ i h. rw (e, n) (search (rules, places));
+    }
 
 -- one place more
 pub stored_more : {before after : List ℕ} {from i colour : ℕ} {h : ℕ → ℕ} → from ≤ i → i < length after → colour ≡ h i

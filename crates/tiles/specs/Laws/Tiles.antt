@@ -4,6 +4,7 @@ use Rattle.std.proofs.Common.{sym, ap, ap₂, ◌∙◌, subst, arith, eqb-true}
 use Rattle.std.proofs.Math.Decide.{dec_lt}
 use Rattle.morton.specs.Code.{code, row_of, column_of}
 use Rattle.morton.specs.Laws.Cell.{cell_of-code}
+use Rattle.morton.specs.Power.{highest}
 use Rattle.tiling.specs.Leaf.{colours}
 use Rattle.tiling.specs.Map.{beyond}
 use Rattle.tiling.specs.Laws.Tests.{and_both}
@@ -26,9 +27,9 @@ module _ (n : ℕ) (l : List ℕ) (row column from : ℕ) {before after : List �
           let t = tile_cell_lem (i - from) (omega arith) in
           sym ((beyond_shows n l row column 4 h).each (row_of (i - from)) (column_of (i - from)) t.0 t.1)
 
-  pub inside_stored : Aligned n l row column → Inside n row column → (k : ℕ) → k ≡ code (row - bias) (column - bias) → Stored before from (from + 256) (codes l k from) after
+  pub inside_stored : n ≤ highest → Aligned n row column → Inside n row column → (k : ℕ) → k ≡ code (row - bias) (column - bias) → Stored before from (from + 256) (codes l k from) after
       → Stored before from (from + 256) (tile_of (cell_about n l) row column from) after
-  inside_stored z p k e s = stored_as (λ i a b. rw e (inside-cells n l row column z p (i - from) (omega arith))) s
+  inside_stored h z p k e s = stored_as (λ i a b. rw e (inside-cells n l row column h z p (i - from) (omega arith))) s
 
 -- ---- a tile of a picture
 module _ (g : ℕ → ℕ → ℕ) (row column : ℕ) where
@@ -84,24 +85,22 @@ module _ (g : ℕ → ℕ → ℕ) (row column : ℕ) where
 
 -- ---- the blocks of a tile about a map: its own if it is aligned, else the four from the one that holds its first cell
 module _ (n : ℕ) (l : List ℕ) (known row column : ℕ) (steps : List ℕ) (a : About n l known row column steps) (h : colours ≤ known) where
-  pub own_block : (eqb (row % 16) 0 && eqb (column % 16) 0) ≡ true → Aligned n l row column
+  pub own_block : (eqb (row % 16) 0 && eqb (column % 16) 0) ≡ true → Aligned n row column
   own_block e =
       let b = and_both _ _ e in
       record {
-        size = a.size;
         large = a.large h;
-        formed = a.formed;
         rows = eqb-true _ _ b.0;
         columns = eqb-true _ _ b.1;
         row_lt = omega (arith, a.row_lt);
         column_lt = omega (arith, a.column_lt);
       }
 
-  pub first_block : Aligned n l (row - row % 16) (column - column % 16)
-  first_block = record { size = a.size; large = a.large h; formed = a.formed; rows = omega arith; columns = omega arith; row_lt = omega (arith, a.row_lt); column_lt = omega (arith, a.column_lt) }
+  pub first_block : Aligned n (row - row % 16) (column - column % 16)
+  first_block = record { large = a.large h; rows = omega arith; columns = omega arith; row_lt = omega (arith, a.row_lt); column_lt = omega (arith, a.column_lt) }
 
-  pub last_block : Aligned n l (row - row % 16 + 16) (column - column % 16 + 16)
-  last_block = record { size = a.size; large = a.large h; formed = a.formed; rows = omega arith; columns = omega arith; row_lt = omega (arith, a.row_lt); column_lt = omega (arith, a.column_lt) }
+  pub last_block : Aligned n (row - row % 16 + 16) (column - column % 16 + 16)
+  last_block = record { large = a.large h; rows = omega arith; columns = omega arith; row_lt = omega (arith, a.row_lt); column_lt = omega (arith, a.column_lt) }
 
   pub small_steps : (j : ℕ) → j < 256 → get_or steps j 0 < 1024
   small_steps j m = rw (a.stepped.each j m) (step_small (row % 16) (column % 16) j (omega arith) (omega arith) m)

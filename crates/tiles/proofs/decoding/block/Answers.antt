@@ -7,11 +7,11 @@ use Rattle.tiles.specs.Laws.Tiles.{beyond_stored, inside_stored}
 use Rattle.tiles.proofs.decoding.block.Goals as goal
 
 pub returns-then-row-column : goal.returns-then-row-column
-returns-then-row-column c = beyond_stored c.args.n c.args.list.now c.args.row c.args.column c.args.from (rw c.side-end.ensures.is at c.if-row-column.true) c.store.ensures
+returns-then-row-column c = beyond_stored c.args.map.now.n c.args.map.now.list.now c.args.row c.args.column c.args.from (rw c.side-end.ensures.is at c.if-row-column.true) c.store.ensures
 
 -- past the test the block lies within the map
-lies : (c : Else-row-column) → let a = c.args in Inside a.n a.row a.column
-lies c = inside _ _ _ _ c.requires.1 (rw c.side-end.ensures.is at c.if-row-column.false)
+lies : (c : Else-row-column) → let a = c.args in Inside a.map.now.n a.row a.column
+lies c = inside _ _ _ c.requires.0 (rw c.side-end.ensures.is at c.if-row-column.false)
 
 pub overflow_sub-row : goal.overflow_sub-row
 overflow_sub-row c = (lies c).top
@@ -22,11 +22,11 @@ overflow_sub-column c = (lies c).left
 pub code_of-code-requires : goal.code_of-code-requires
 code_of-code-requires c =
     let p = lies c in
-    let q : 2 ^ c.args.n ≤ 2 ^ 15 = pow_mono c.requires.1.size in
-    (omega (arith, p.bottom), omega (arith, p.right), c.requires.0)
+    let q : 2 ^ c.args.map.now.n ≤ 2 ^ 15 = pow_mono c.args.map.now.is.size in
+    (omega (arith, p.bottom), omega (arith, p.right))
 
 pub decode-requires : goal.decode-requires
-decode-requires c = record { n = c.args.n; size = c.requires.1.size; formed = c.requires.1.formed; inside = rw c.code_of-code.ensures (inside-codes _ _ _ _ c.requires.1 (lies (goal.at.decode-requires c).Else-row-column)); room = c.requires.2; few = c.requires.3 }
+decode-requires c = record { inside = rw c.code_of-code.ensures (inside-codes _ c.args.map.now.list.now _ _ c.args.map.now.is.size c.requires.0 (lies (goal.at.decode-requires c).Else-row-column)); room = c.requires.1; few = c.requires.2 }
 
 pub returns : goal.returns
-returns c = inside_stored c.args.n c.args.list.now c.args.row c.args.column c.args.from c.requires.1 (lies (goal.at.returns c).Else-row-column) _ c.code_of-code.ensures c.decode.ensures
+returns c = inside_stored c.args.map.now.n c.args.map.now.list.now c.args.row c.args.column c.args.from c.args.map.now.is.size c.requires.0 (lies (goal.at.returns c).Else-row-column) _ c.code_of-code.ensures c.decode.ensures
