@@ -3,4 +3,5 @@ pub mod Known
 pub mod Scene
 pub mod Tiled
 pub mod Painting
+pub mod View
 pub mod Laws

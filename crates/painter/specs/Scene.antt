@@ -32,13 +32,6 @@ pub record Knows (s : Scene) (a b : List ℕ) (ka kb y x level : ℕ) : Type 0 w
   pub first : Holds (cell_about s.n a) (s.ay + y) (s.ax + x) level (seen_of ka)
   pub second : Holds (cell_about s.m b) (s.by + y) (s.bx + x) level (seen_of kb)
 
-pub record Probes (s : Scene) (a b : List ℕ) (ka kb y x level : ℕ) : Type 0 where
-  pub scened : Scened s a b
-  pub knows : Knows s a b ka kb y x level
-  pub low : level ≤ highest
-  pub y_lt : y < 2 ^ highest
-  pub x_lt : x < 2 ^ highest
-
 -- what is told of the scene, and what is known of the maps from then on
 pub record Told (s : Scene) (a b : List ℕ) (y x level all ka kb : ℕ) : Type 0 where
   pub knows : Knows s a b ka kb y x level

@@ -3,13 +3,14 @@
 // What is known of a map over a block goes down with it as one number, a colour or a hint (`probe`). A map is asked again only where the
 // operation is not settled by what is known already.
 //
-// Read first: specs/Operation.antt and specs/Scene.antt; then `shown`.
+// Read first: specs/Operation.antt and specs/Scene.antt; then `View::shown`.
 #![tactic(auto)]
 
+mod layer;
 mod operations;
 mod painting;
 mod scene;
 
 pub use operations::Operation;
 pub use painting::{leaves, write};
-pub use scene::{Probe, Scene, shown};
+pub use scene::{Known, Probe, Scene, View};

@@ -1,14 +1,13 @@
 // A scene: two maps under an operation, seen through a window.
-ghost use Rattle.morton.specs.Spreads.{Spreads};
 ghost use Rattle.std.specs.Prelude.{◌≡◌, true, length};
-ghost use Rattle.tiles.specs.Tile.{Tile};
-ghost use Rattle.painter.specs.Scene.{Probes, Told, cell_of};
-ghost use Rattle.painter.specs.Tiled.{Tiled, Tiles, Stepped};
 
+use super::layer::Layer;
 use super::operations::Operation;
+use morton::{Block, Spread};
+use tiling::{COLOURS, Map};
 
 // Two maps of sizes n and m, and where the window's first cell lies in each, at biased rows and columns.
-#[derive(Clone, Copy)]
+#[derive(Clone, Copy, Debug, PartialEq, Eq)]
 pub struct Scene {
     pub operation: Operation,
     pub n: u64,
@@ -19,74 +18,89 @@ pub struct Scene {
     pub bx: u64,
 }
 
-// What is known of a block: of the scene, and of each map.
-#[derive(Clone, Copy)]
+// What is known of each map over a block.
+#[derive(Clone, Copy, Debug, PartialEq, Eq)]
+pub struct Known {
+    pub first: u64,
+    pub second: u64,
+}
+
+// What is seen of a block: of the scene, and what is known of each map from then on.
+#[derive(Clone, Copy, Debug, PartialEq, Eq)]
 pub struct Probe {
     pub all: u64,
-    pub a: u64,
-    pub b: u64,
+    pub known: Known,
 }
 
-// What the scene shows over the square of the level at row y and column x of the window. The second map is asked only if what was known of
-// it leaves the operation open.
-pub fn shown(
-    s: Scene,
-    a: &[u64],
-    b: &[u64],
-    ka: u64,
-    kb: u64,
-    y: u64,
-    x: u64,
-    level: u64,
-    table: &[u16; 256],
-) -> Probe
-    requires { Spreads table.now × Probes s a.now b.now ka kb y x level }
-    ensures { Told s a.now b.now y x level result.all result.a result.b }
-{
-    let operation = s.operation;
-    let sa = probe::ask(s.n, a, ka, s.ay + y, s.ax + x, level, table);
-    let early = super::operations::joint(operation, sa, kb);
-    if early < tiling::COLOURS {
-        return Probe {
-            all: early,
-            a: sa,
-            b: kb,
-        };
+// A scene with its maps, and with what is made once for all of its blocks.
+#[derive(Drop)]
+pub struct View<'a> {
+    operation: Operation,
+    first: Layer<'a>,
+    second: Layer<'a>,
+    table: Spread,
+}
+
+impl<'a> View<'a> {
+    ghost use Rattle.painter.specs.Scene.{Scened, picture};
+    ghost use Rattle.painter.specs.View.{picture_in, cell_in, KnowsOver, ToldOver, TiledOver};
+    ghost use Rattle.tiles.specs.Tile.{Tile};
+
+    pub fn new(s: Scene, a: &'a [u64], b: &'a [u64]) -> View<'a>
+        requires { Scened s a.now b.now }
+        ensures { picture_in result ≡ picture s a.now b.now }
+    {
+        let table = Spread::new();
+        let first = Layer::new(Map { n: s.n, list: a }, s.ay, s.ax, &table);
+        let second = Layer::new(Map { n: s.m, list: b }, s.by, s.bx, &table);
+        View {
+            operation: s.operation,
+            first,
+            second,
+            table,
+        }
     }
-    let sb = probe::ask(s.m, b, kb, s.by + y, s.bx + x, level, table);
-    let all = super::operations::joint(operation, sa, sb);
-    Probe { all, a: sa, b: sb }
-}
 
-// Whether a block is painted by a tile: it is one, and each map is known over it or at least as large.
-pub fn tiled(s: Scene, ka: u64, kb: u64, level: u64) -> bool
-    ensures { result ≡ true → Tiled s ka kb level }
-{
-    let first = (ka < tiling::COLOURS) | (tiles::LEVEL <= s.n);
-    let second = (kb < tiling::COLOURS) | (tiles::LEVEL <= s.m);
-    (level == tiles::LEVEL) & first & second
-}
+    // What the scene shows over a block. The second map is asked only if what was known of it leaves the operation open.
+    pub fn shown(&self, known: Known, block: Block) -> Probe
+        requires { KnowsOver self.now known block }
+        ensures { ToldOver self.now block result.all result.known }
+    {
+        let first = self.first.ask(&self.table, known.first, block);
+        let early = self.operation.joint(first, known.second);
+        if early < COLOURS {
+            let second = known.second;
+            return Probe {
+                all: early,
+                known: Known { first, second },
+            };
+        }
+        let second = self.second.ask(&self.table, known.second, block);
+        let all = self.operation.joint(first, second);
+        Probe {
+            all,
+            known: Known { first, second },
+        }
+    }
 
-// The scene's tile at row y and column x of the window.
-pub fn tile(
-    s: Scene,
-    a: &[u64],
-    b: &[u64],
-    ka: u64,
-    kb: u64,
-    y: u64,
-    x: u64,
-    first: &[u16; 256],
-    second: &[u16; 256],
-    cells: &mut [u8],
-    table: &[u16; 256],
-)
-    requires { Spreads table.now × (length cells.old ≡ 256) × Stepped s first.now second.now × Tiles s a.now b.now ka kb y x }
-    ensures { Tile (cell_of s a.now b.now) y x 256 cells.new }
-{
-    let operation = s.operation;
-    tiles::tile(s.n, a, ka, s.ay + y, s.ax + x, first, cells, table);
-    let mut other = tiles::room();
-    tiles::tile(s.m, b, kb, s.by + y, s.bx + x, second, &mut other, table);
-    super::operations::combine(operation, cells, &other);
+    // Whether a block is painted by a tile: it is one, and so can both maps be.
+    pub fn tiled(&self, known: Known, block: Block) -> bool
+        ensures { result ≡ true → TiledOver self.now known block }
+    {
+        let first = self.first.tiled(known.first);
+        let second = self.second.tiled(known.second);
+        (block.level == tiles::LEVEL) & first & second
+    }
+
+    // The scene's tile over a block of a tile's level.
+    pub fn tile(&self, known: Known, block: Block, cells: &mut [u8])
+        requires { (length cells.old ≡ 256) × KnowsOver self.now known block × TiledOver self.now known block }
+        ensures { Tile (cell_in self.now) block.row block.column 256 cells.new }
+    {
+        self.first.tile(&self.table, known.first, block, cells);
+        let mut other = [0; 256];
+        self.second
+            .tile(&self.table, known.second, block, &mut other);
+        super::operations::combine(self.operation, cells, &other);
+    }
 }

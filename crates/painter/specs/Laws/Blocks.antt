@@ -1,11 +1,14 @@
 -- The blocks of a scene: the picture over one that shows one colour, and the quarters of one that does not.
-use Rattle.std.specs.Prelude.{◌≡◌, ◌&&◌, List, ℕ, suc, ◌+◌, ◌-◌, ◌*◌, ◌^◌, ◌<◌, ◌≤◌}
+use Rattle.std.specs.Prelude.{◌≡◌, ◌&&◌, List, ℕ, zero, suc, ◌+◌, ◌-◌, ◌*◌, ◌^◌, ◌<◌, ◌≤◌, length, get_or}
 use Rattle.std.proofs.Common.{sym, ap, ap₂, ◌∙◌, subst, arith, pow_pos}
 use Rattle.std.proofs.Math.Nat.{pow-succ'}
+use Rattle.std.proofs.lemmas.List.{get_or_past}
+use Rattle.std.proofs.Math.Decide.{dec_lt}
 use Rattle.morton.specs.Code.{code, row_of, column_of}
-use Rattle.morton.specs.Block.{Block, Quarters}
-use Rattle.morton.specs.Laws.Block.{block_level, block_cell, quarters, whole}
+use Rattle.morton.specs.Block.{Block, Quartered}
+use Rattle.morton.specs.Laws.Block.{block_cell}
 use Rattle.tiling.specs.Leaf.{colours}
+use Rattle.tiles.specs.Tile.{Tile}
 use Rattle.tiling.specs.Map.{beyond, colour_at}
 use Rattle.tiling.specs.Laws.Colour.{colour_lt}
 use Rattle.probe.specs.Seen.{Seen, one, mixed, seen_of, Shows, Tells, Holds}
@@ -18,8 +21,7 @@ use Rattle.shortest.specs.Laws.Flat.{Flat, flat_first}
 use Rattle.shortest.proofs.Flat.{flat_uniform}
 use Rattle.shortest.specs.Laws.Part.{part_one}
 use Rattle.shortest.proofs.Written.{flat_inner}
-use Rattle.painter.specs.Scene.{cell_of, picture, Scened, Knows, Probes}
-use Rattle.painter.specs.Painting.{Counts, Paints}
+use Rattle.painter.specs.Scene.{cell_of, picture, Knows}
 use Rattle.painter.specs.Laws.Table.{either_lt, combine-lt}
 use Rattle.painter.specs.declared.scene.Scene.{Scene}
 
@@ -29,9 +31,20 @@ unfolding cell_about
 about_lt n l row column =
     either_lt (within_b n row && within_b n column) (colour_at l (code (row - bias) (column - bias))) beyond colours (colour_lt l (code (row - bias) (column - bias))) (omega arith)
 
+cell_lt : (s : Scene) (a b : List ℕ) (y x : ℕ) → cell_of s a b y x < colours
+unfolding cell_of
+cell_lt s a b y x = combine-lt s.operation _ _ (about_lt s.n a _ _) (about_lt s.m b _ _)
+
 pub coloured : (s : Scene) (a b : List ℕ) (j : ℕ) → picture s a b j < colours
-unfolding picture cell_of
-coloured s a b j = combine-lt s.operation _ _ (about_lt s.n a _ _) (about_lt s.m b _ _)
+unfolding picture
+coloured s a b j = cell_lt s a b (row_of j) (column_of j)
+
+-- so a tile of the scene is one of colours
+pub tile_bytes : (s : Scene) (a b : List ℕ) (y x : ℕ) (cells : List ℕ) → length cells ≡ 256 → Tile (cell_of s a b) y x 256 cells → (j : ℕ) → get_or cells j 0 < colours
+tile_bytes s a b y x cells w t j = elim (dec_lt j 256) [
+  | yes h ↦ rw (t.each j h) (cell_lt s a b (y + row_of j) (x + column_of j))
+  | no h ↦ let e : get_or cells j 0 ≡ 0 = get_or_past cells j 0 (omega arith) in omega (arith, e)
+]
 
 -- ---- what was told, by its number
 pub told_one : (g : ℕ → ℕ → ℕ) (y x level v : ℕ) → v < colours → Tells g y x level (seen_of v) → Shows g y x level v
@@ -79,33 +92,22 @@ knows_part s a b ka kb y x level dy dx y' x' level' ey ex ly lx h = record {
   second = holds_part _ _ _ level dy dx _ _ level' (seen_of kb) (omega arith) (omega arith) ly lx h.second;
 }
 
-pub probes : (s : Scene) (a b : List ℕ) (ka kb k y x level : ℕ) → Counts s a b ka kb k y x level → Probes s a b ka kb y x level
-probes s a b ka kb k y x level c =
-    let z = c.block in
-    let p = pow_pos level in
-    record { scened = c.scened; knows = c.knows; low = block_level k y x level z; y_lt = omega (arith, z.bottom); x_lt = omega (arith, z.right) }
+-- of a whole window nothing is known
+pub whole_knows : (s : Scene) (a b : List ℕ) (w : ℕ) → Knows s a b colours colours 0 0 w
+whole_knows s a b w = record { first = tt; second = tt }
 
--- the whole window, of which nothing is known
-pub whole_counts : (s : Scene) (a b : List ℕ) (w : ℕ) → Paints s a b w → Counts s a b colours colours 0 0 0 w
-whole_counts s a b w p = record { scened = p.scened; knows = record { first = tt; second = tt }; block = whole w p.size }
-
--- ---- the quarters of a block of the scene, of level L, side h and area q
-pub record Four (s : Scene) (a b : List ℕ) (ka kb k y x L h q : ℕ) : Type 0 where
-  pub quarters : Quarters k y x L h q
-  pub nw : Counts s a b ka kb k y x L
-  pub ne : Counts s a b ka kb (k + q) y (x + h) L
-  pub sw : Counts s a b ka kb (k + 2 * q) (y + h) x L
-  pub se : Counts s a b ka kb (k + 3 * q) (y + h) (x + h) L
-
-pub four : (s : Scene) (a b : List ℕ) (ka kb k y x level h q : ℕ) → 0 < level → q ≡ 4 ^ (level - 1) → h ≡ 2 ^ (level - 1)
-    → Scened s a b → Knows s a b ka kb y x level → Block k y x level → Four s a b ka kb k y x (level - 1) h q
-four s a b ka kb k y x level h q p eq eh z n bl =
-    let b4 = quarters k y x level h q p eq eh bl in
+-- the quarter i to the south and j to the east
+pub quarter_knows : (s : Scene) (a b : List ℕ) (ka kb k y x level i j k' y' x' level' : ℕ) → 0 < level → i < 2 → j < 2
+    → Quartered k y x (level - 1) i j k' y' x' level' → Knows s a b ka kb y x level → Knows s a b ka kb y' x' level'
+quarter_knows s a b ka kb k y x level i j k' y' x' level' p hi hj q n =
+    let h : ℕ = 2 ^ (level - 1) in
     let t : 2 ^ level ≡ 2 * 2 ^ (level - 1) = (let e : level ≡ suc (level - 1) = omega arith in ap (λ (m : ℕ). 2 ^ m) e ∙ pow-succ' 2 (level - 1)) in
-    record {
-      quarters = b4;
-      nw = record { scened = z; knows = knows_part s a b ka kb y x level 0 0 y x (level - 1) (omega arith) (omega arith) (omega arith) (omega arith) n; block = b4.nw };
-      ne = record { scened = z; knows = knows_part s a b ka kb y x level 0 h y (x + h) (level - 1) (omega arith) (omega arith) (omega arith) (omega arith) n; block = b4.ne };
-      sw = record { scened = z; knows = knows_part s a b ka kb y x level h 0 (y + h) x (level - 1) (omega arith) (omega arith) (omega arith) (omega arith) n; block = b4.sw };
-      se = record { scened = z; knows = knows_part s a b ka kb y x level h h (y + h) (x + h) (level - 1) (omega arith) (omega arith) (omega arith) (omega arith) n; block = b4.se };
-    }
+    let e : 2 ^ level' ≡ 2 ^ (level - 1) = ap (λ (m : ℕ). 2 ^ m) q.level in
+    let u : i * h + h ≤ 2 * h = up i h hi in
+    let v : j * h + h ≤ 2 * h = up j h hj in
+    knows_part s a b ka kb y x level (i * h) (j * h) y' x' level' (sym q.row) (sym q.column) (omega arith) (omega arith) n
+  where
+    up : (i h : ℕ) → i < 2 → i * h + h ≤ 2 * h
+    up zero h l = omega arith
+    up (suc zero) h l = omega arith
+    up (suc (suc i)) h l = absurd (omega arith)

@@ -5,10 +5,9 @@ use Rattle.std.proofs.Math.Nat.{add_assoc}
 use Rattle.tiling.specs.Leaf.{colours}
 use Rattle.probe.specs.Seen.{Seen, one, mixed, seen_of, Shows, Tells, Holds}
 use Rattle.probe.specs.Biased.{cell_about}
-use Rattle.probe.specs.Asked.{About}
 use Rattle.probe.specs.Laws.About.{is_one_lem, tells_holds}
 use Rattle.painter.specs.Known.{Agrees, Open, Joint}
-use Rattle.painter.specs.Scene.{cell_of, Probes}
+use Rattle.painter.specs.Scene.{cell_of}
 use Rattle.painter.specs.declared.scene.Scene.{Scene}
 
 -- a map's colour at a cell of the square agrees with what is known
@@ -49,14 +48,3 @@ module _ (s : Scene) (a b : List ℕ) (y x level : ℕ) where
       → Joint s.operation ka kb r → Tells (cell_of s a b) y x level r
   both_told ka kb (one c) ta tb t = settled ka kb c (tells_holds _ _ _ _ ka ta) (tells_holds _ _ _ _ kb tb) t
   both_told ka kb (mixed h) ta tb t = open_many ka kb ta tb t
-
-  module _ (ka kb : ℕ) (p : Probes s a b ka kb y x level) where
-    pub first_about : About s.n a (s.ay + y) (s.ax + x) level
-    first_about =
-        let z = p.scened in
-        record { size = z.first-size; formed = z.first_formed; level_in = p.low; row_lt = omega (arith, p.y_lt, z.ay_lt); column_lt = omega (arith, p.x_lt, z.ax_lt) }
-
-    pub second_about : About s.m b (s.by + y) (s.bx + x) level
-    second_about =
-        let z = p.scened in
-        record { size = z.second-size; formed = z.second_formed; level_in = p.low; row_lt = omega (arith, p.y_lt, z.by_lt); column_lt = omega (arith, p.x_lt, z.bx_lt) }

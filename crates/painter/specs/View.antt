@@ -1,0 +1,34 @@
+-- What a view shows, and what its functions ask and tell of a block.
+use Rattle.std.specs.Prelude.{List, ℕ}
+use Rattle.morton.specs.declared.block.Block.{Block}
+use Rattle.painter.specs.Scene.{cell_of, picture, Knows, Told}
+use Rattle.painter.specs.Tiled.{Tiled}
+use Rattle.painter.specs.declared.scene.Known.{Known}
+use Rattle.painter.specs.declared.scene.Scene.{Scene}
+use Rattle.painter.specs.declared.scene.View.{View}
+
+-- its scene, and the lists of its two maps
+abbrev pub scene_of : View → Scene
+scene_of v = record { operation = v.operation; n = v.first.map.n; m = v.second.map.n; ay = v.first.row; ax = v.first.column; by = v.second.row; bx = v.second.column }
+
+abbrev pub first_of : View → List ℕ
+first_of v = v.first.map.list.now
+
+abbrev pub second_of : View → List ℕ
+second_of v = v.second.map.list.now
+
+abbrev pub cell_in : View → ℕ → ℕ → ℕ
+cell_in v = cell_of (scene_of v) (first_of v) (second_of v)
+
+abbrev pub picture_in : View → ℕ → ℕ
+picture_in v = picture (scene_of v) (first_of v) (second_of v)
+
+-- what is known of each map over the block is right
+abbrev pub KnowsOver : View → Known → Block → Type 0
+KnowsOver v k b = Knows (scene_of v) (first_of v) (second_of v) k.first k.second b.row b.column b.level
+
+abbrev pub ToldOver : View → Block → ℕ → Known → Type 0
+ToldOver v b all k = Told (scene_of v) (first_of v) (second_of v) b.row b.column b.level all k.first k.second
+
+abbrev pub TiledOver : View → Known → Block → Type 0
+TiledOver v k b = Tiled (scene_of v) k.first k.second b.level

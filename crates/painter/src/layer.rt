@@ -1,0 +1,69 @@
+// One of the two maps, as it lies under the window.
+ghost use Rattle.std.specs.Prelude.{◌≡◌, true, ◌⊎◌, ◌+◌, ◌%◌, ◌^◌, ◌<◌, ◌≤◌, length};
+ghost use Rattle.tiling.specs.Leaf.{colours};
+ghost use Rattle.probe.specs.Seen.{Holds, Tells, seen_of};
+ghost use Rattle.probe.specs.Biased.{cell_about};
+ghost use Rattle.tiles.specs.Tile.{Steps, Tile};
+
+use morton::{Block, Spread};
+use probe::Square;
+use tiling::{COLOURS, Map};
+
+// A map, where the window's first cell lies in it, at a biased row and column, and the steps of the window's tiles in it: the same for
+// all of them, since they are a tile's side apart.
+#[derive(Clone, Copy)]
+pub struct Layer<'a> {
+    pub map: Map<'a>,
+    pub row: u64,
+    pub column: u64,
+    pub steps: [u16; 256],
+    pub ghost near: { (row < 2 ^ 19) × (column < 2 ^ 19) },
+    pub ghost stepped: { Steps (row % 16) (column % 16) steps },
+}
+
+impl<'a> Layer<'a> {
+    pub fn new(map: Map<'a>, row: u64, column: u64, table: &Spread) -> Layer<'a>
+        requires { (row < 2 ^ 19) × (column < 2 ^ 19) }
+        ensures map { (result.map.n ≡ map.entry.n) × (result.map.list.now ≡ map.entry.list.now) }
+        ensures place { (result.row ≡ row) × (result.column ≡ column) }
+    {
+        let steps = tiles::steps(row % 16, column % 16, table);
+        Layer {
+            map,
+            row,
+            column,
+            steps,
+        }
+    }
+
+    // What the map shows over a block of the window, unless it is known already.
+    pub fn ask(&self, table: &Spread, known: u64, block: Block) -> u64
+        requires { Holds (cell_about self.now.map.n self.now.map.list.now) (self.now.row + block.row) (self.now.column + block.column) block.level (seen_of known) }
+        ensures { Tells (cell_about self.now.map.n self.now.map.list.now) (self.now.row + block.row) (self.now.column + block.column) block.level (seen_of result) }
+    {
+        let square = Square {
+            row: self.row + block.row,
+            column: self.column + block.column,
+            level: block.level,
+        };
+        probe::ask(&self.map, table, known, square)
+    }
+
+    // Whether the map can be painted by tiles: it is known over the block or at least as large as one.
+    pub fn tiled(&self, known: u64) -> bool
+        ensures { result ≡ true → colours ≤ known → 4 ≤ self.now.map.n }
+    {
+        (known < COLOURS) | (tiles::LEVEL <= self.map.n)
+    }
+
+    // The map's tile over a block of a tile's level.
+    pub fn tile(&self, table: &Spread, known: u64, block: Block, cells: &mut [u8])
+        requires sized { (length cells.old ≡ 256) × (block.level ≡ 4) }
+        requires known { Holds (cell_about self.now.map.n self.now.map.list.now) (self.now.row + block.row) (self.now.column + block.column) 4 (seen_of known) }
+        requires large { colours ≤ known → 4 ≤ self.now.map.n }
+        ensures { Tile (cell_about self.now.map.n self.now.map.list.now) (self.now.row + block.row) (self.now.column + block.column) 256 cells.new }
+    {
+        let (row, column) = (self.row + block.row, self.column + block.column);
+        tiles::tile(&self.map, table, known, row, column, &self.steps, cells);
+    }
+}
