@@ -8,3 +8,4 @@ pub mod Written
 pub mod Quarters
 pub mod Same
 pub mod Steps
+pub mod Cells

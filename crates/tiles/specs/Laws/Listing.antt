@@ -7,48 +7,16 @@ use Rattle.std.proofs.lemmas.List.Edits.{length-between, get_or-between}
 use Rattle.std.proofs.Math.Decide.{dec_le}
 use Rattle.morton.specs.Power.{highest}
 use Rattle.tiling.specs.Leaf.{colours}
-use Rattle.shortest.specs.Part.{part, size_of, joined}
-use Rattle.shortest.specs.Written.{Placed}
+use Rattle.shortest.specs.Part.{part}
 use Rattle.shortest.specs.Laws.Part.{part_one}
-use Rattle.shortest.proofs.Part.{part_cell}
 use Rattle.shortest.specs.Laws.Flat.{Flat}
 use Rattle.shortest.proofs.Flat.{flat_uniform}
 use Rattle.shortest.specs.Laws.Power.{pow_pos, pow_four, pow-le}
-use Rattle.shortest.proofs.Written.{cell_inner}
-use Rattle.shortest.specs.Laws.Quarters.{Wrote, Ready, four_sizes}
-use Rattle.shortest.proofs.Quarters.{four_counted, ready}
 use Rattle.tiles.specs.Listing.{spots, Counts}
 
--- ---- four cells, the first of them at the code k
-module _ (tile : List ℕ) (first : ℕ) (bytes : (j : ℕ) → get_or tile j 0 < colours) (k : ℕ) {p₀ p₁ p₂ p₃ : ℕ}
-    (e₀ : p₀ ≡ spots tile first k) (e₁ : p₁ ≡ spots tile first (k + 1)) (e₂ : p₂ ≡ spots tile first (k + 2)) (e₃ : p₃ ≡ spots tile first (k + 3)) where
-  abbrev f : ℕ → ℕ
-  f = spots tile first
-
-  coloured : (j : ℕ) → f j < colours
-  coloured j = bytes (j - first)
-
-  -- a single cell is its own part, and writes nothing by itself
-  cell : (i p : ℕ) → p ≡ f (k + i) → p ≡ part f 0 (k + i)
-  cell i p e = e ∙ sym (part_cell f (k + i))
-
-  wrote : (i p : ℕ) (o : List ℕ) (at : ℕ) → p ≡ f (k + i) → Wrote f 0 (k + i) o o at p (size_of p)
-  wrote i p o at e = record { is = cell i p e; wrote = cell_inner f (k + i) o at; kept = refl; size = refl }
-
-  first_cell : p₀ ≡ f (k + 0)
-  first_cell = let e : k + 0 ≡ k = omega arith in rw e e₀
-
-  pub cells_fit : size_of p₀ + size_of p₁ + size_of p₂ + size_of p₃ ≤ 4 ^ highest
-  cells_fit = let e : k + 0 ≡ k = omega arith in omega (arith, four_sizes f coloured 1 k (omega arith) p₀ p₁ p₂ p₃ (rw e at (cell 0 p₀ first_cell)) (cell 1 p₁ e₁) (cell 2 p₂ e₂) (cell 3 p₃ e₃))
-
-  pub cells_part : joined p₀ p₁ p₂ p₃ ≡ part f 1 k
-  cells_part = let e : k + 0 ≡ k = omega arith in four_counted f coloured 1 k (omega arith) p₀ p₁ p₂ p₃ (rw e at (cell 0 p₀ first_cell)) (cell 1 p₁ e₁) (cell 2 p₂ e₂) (cell 3 p₃ e₃)
-
-  pub cells_ready : Counts first k 1 → (o : List ℕ) (at : ℕ) → Placed f o at 1 k → Ready f o o at 0 k p₀ p₁ p₂ p₃
-  cells_ready c o at h =
-      let e : k + 0 ≡ k = omega arith in
-      ready f coloured o at 0 k h o p₀ _ (rw e at (wrote 0 p₀ o at first_cell)) o p₁ _ (wrote 1 p₁ o _ e₁) o p₂ _ (wrote 2 p₂ o _ e₂) o p₃ _ (wrote 3 p₃ o _ e₃)
-      (omega (arith, c.to, c.small)) (omega arith)
+-- bytes are colours
+pub coloured : (tile : List ℕ) (first : ℕ) → ((j : ℕ) → get_or tile j 0 < colours) → (j : ℕ) → spots tile first j < colours
+coloured tile first bytes j = bytes (j - first)
 
 -- the quarters of a block of more than four cells, of area q
 pub record Four (first k L q : ℕ) : Type 0 where
