@@ -17,13 +17,6 @@ pub record Square (n cells y x level : ℕ) : Type 0 where
   pub bottom : y + 2 ^ level ≤ 2 ^ n
   pub right : x + 2 ^ level ≤ 2 ^ n
 
--- a block of the level, which is such a square and aligned, and a map for it
-pub record Walks (n : ℕ) (l : List ℕ) (cells y x level : ℕ) : Type 0 where
-  pub square : Square n cells y x level
-  pub formed : WellFormed n l
-  pub rows : y % 2 ^ level ≡ 0
-  pub columns : x % 2 ^ level ≡ 0
-
 -- so many rows, so wide, of the square at (y, x) have the colours of the picture g; every other cell is as it was
 pub record Rows (n : ℕ) (g : ℕ → ℕ → ℕ) (y x rows wide : ℕ) (before after : List ℕ) : Type 0 where
   pub inside : (r c : ℕ) → y ≤ r → r < y + rows → x ≤ c → c < x + wide → get_or after (r * 2 ^ n + c) 0 ≡ g r c

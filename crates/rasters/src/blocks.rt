@@ -1,51 +1,38 @@
 // The raster of a list, block by block: a block that lies in one leaf is filled at once, a tile leaf by leaf, any other by its quarters.
-ghost use Rattle.std.specs.Prelude.{◌≡◌, ◌+◌, ◌*◌, ◌^◌, ◌≤◌, length};
-ghost use Rattle.morton.specs.Code.{interleaved, bits};
-ghost use Rattle.morton.specs.Spreads.{Spreads};
+ghost use Rattle.std.specs.Prelude.{◌≡◌, ◌+◌, ◌^◌, ◌≤◌, length};
 ghost use Rattle.probe.specs.Asked.{cell_at};
 ghost use Rattle.tiles.specs.Tile.{Stored};
 ghost use Rattle.rasters.specs.Raster.{raster_of};
-ghost use Rattle.rasters.specs.Blocks.{Fills, Square, Walks, Rows, Order, alone, row_of_tile, tile_cell};
+ghost use Rattle.rasters.specs.Blocks.{Fills, Square, Rows, Order, alone, row_of_tile, tile_cell};
 
-// Room for the order of a tile's cells.
-fn no_order() -> [u16; 256]
-    ensures { 256 ≡ length result }
-{
-    [0; 256]
-}
+use morton::{Block, Four, Spread};
+use tiling::Map;
 
 // The code of each cell of a tile, row by row.
-fn order(table: &[u16; 256]) -> [u16; 256]
-    requires { Spreads table.now }
+fn order(table: &Spread) -> [u16; 256]
     ensures { Order result }
 {
-    let mut order = no_order();
-    let mut j: usize = 0;
+    let mut order = [0; 256];
     // the codes of the cells before j are there
-    while j < 256 {
+    for (j, place) in order.iter_mut().enumerate() {
         let k = j as u64;
-        let code = morton::code_of(k / 16, k % 16, table);
-        order[j] = code as u16;
-        j += 1;
+        let code = table.code_of(k / 16, k % 16);
+        *place = code as u16;
     }
     order
 }
 
-// Fills the square of the level at row y and column x with a colour.
-fn square(n: u64, cells: &mut [u8], y: u64, x: u64, level: u64, colour: u8)
-    requires { Square n (length cells.old) y x level }
-    ensures { Rows n (alone colour) y x (2 ^ level) (2 ^ level) cells.old cells.new }
+// Fills the square of a block with a colour.
+fn square(n: u64, cells: &mut [u8], block: Block, colour: u8)
+    requires { Square n (length cells.old) block.row block.column block.level }
+    ensures { Rows n (alone colour) block.row block.column (2 ^ block.level) (2 ^ block.level) cells.old cells.new }
 {
     let width = morton::side(n);
-    let side = morton::side(level);
-    let mut place = y * width + x;
-    let mut row: u64 = 0;
+    let side = morton::side(block.level);
     // the rows before it are filled
-    while row < side {
-        let from = place as usize;
+    for row in 0..side {
+        let from = ((block.row + row) * width + block.column) as usize;
         tiles::store(cells, from, from + side as usize, colour);
-        place += width;
-        row += 1;
     }
 }
 
@@ -54,82 +41,66 @@ fn put_row(tile: &[u8], order: &[u16; 256], first: usize, cells: &mut [u8], plac
     requires { (length tile.now ≡ 256) × Order order.now × (first + 16 ≤ 256) × (place + 16 ≤ length cells.old) }
     ensures { Stored cells.old place (place + 16) (row_of_tile tile.now order.now first place) cells.new }
 {
-    let mut i: usize = 0;
     // the cells before i are stored
-    while i < 16 {
+    for i in 0..16 {
         let at = order[first + i] as usize;
         cells[place + i] = tile[at];
-        i += 1;
     }
 }
 
-// Stores a tile at row y and column x.
-fn put_tile(n: u64, tile: &[u8], order: &[u16; 256], cells: &mut [u8], y: u64, x: u64)
-    requires { (length tile.now ≡ 256) × Order order.now × Square n (length cells.old) y x 4 }
-    ensures { Rows n (tile_cell tile.now y x) y x 16 16 cells.old cells.new }
-{
-    let width = morton::side(n);
-    let mut place = y * width + x;
-    let mut row: usize = 0;
-    // the rows before it are stored
-    while row < 16 {
-        put_row(tile, order, 16 * row, cells, place as usize);
-        place += width;
-        row += 1;
-    }
+// A map that is written out, and the order of a tile's cells, which is made once.
+#[derive(Clone, Copy)]
+struct Filler<'a> {
+    map: Map<'a>,
+    order: [u16; 256],
+    ghost rows: { Order order },
 }
 
-// Fills the tile at row y and column x with the colours of a map of size n. Its first leaf is sought from a hint.
-fn fill_tile(
-    n: u64,
-    list: &[u64],
-    code: u64,
-    hint: usize,
-    cells: &mut [u8],
-    y: u64,
-    x: u64,
-    order: &[u16; 256],
-)
-    requires { (code ≡ interleaved bits y x) × Order order.now × Walks n list.now (length cells.old) y x 4 }
-    ensures { Rows n (cell_at list.now) y x 16 16 cells.old cells.new }
-{
-    let mut tile = tiles::room();
-    tiles::decode(list, code, hint, &mut tile, 0);
-    put_tile(n, &tile, order, cells, y, x);
-}
+impl<'a> Filler<'a> {
+    // Stores the tile of a block.
+    fn put_tile(&self, tile: &[u8], cells: &mut [u8], block: Block)
+        requires { (length tile.now ≡ 256) × (block.level ≡ 4) × Square self.now.map.n (length cells.old) block.row block.column 4 }
+        ensures { Rows self.now.map.n (tile_cell tile.now block.row block.column) block.row block.column 16 16 cells.old cells.new }
+    {
+        let width = morton::side(self.map.n);
+        // the rows before it are stored
+        for row in 0..16 {
+            let place = (block.row + row) * width + block.column;
+            put_row(tile, &self.order, 16 * row as usize, cells, place as usize);
+        }
+    }
 
-// Fills the block of the level at row y and column x with the colours of a map of size n. Its first leaf is sought from a hint.
-fn walk(
-    n: u64,
-    list: &[u64],
-    hint: usize,
-    cells: &mut [u8],
-    y: u64,
-    x: u64,
-    level: u64,
-    order: &[u16; 256],
-    table: &[u16; 256],
-)
-    requires { Spreads table.now × Order order.now × Walks n list.now (length cells.old) y x level }
-    ensures { Rows n (cell_at list.now) y x (2 ^ level) (2 ^ level) cells.old cells.new }
-{
-    let code = morton::code_of(y, x, table);
-    let at = probe::find(list, code, hint);
-    let w = list[at];
-    if level <= tiling::level_of(w) {
-        square(n, cells, y, x, level, tiling::colour_of(w));
-        return;
+    // Fills a tile with the colours of the map. Its first leaf is sought from a hint.
+    fn fill_tile(&self, hint: usize, cells: &mut [u8], block: Block)
+        requires { (block.level ≡ 4) × Square self.now.map.n (length cells.old) block.row block.column 4 }
+        ensures { Rows self.now.map.n (cell_at self.now.map.list.now) block.row block.column 16 16 cells.old cells.new }
+    {
+        let mut tile = [0; 256];
+        tiles::decode(&self.map, block.code, hint, &mut tile, 0);
+        self.put_tile(&tile, cells, block);
     }
-    if level == tiles::LEVEL {
-        fill_tile(n, list, code, at, cells, y, x, order);
-        return;
+
+    // Fills a block with the colours of the map. Its first leaf is sought from a hint.
+    fn walk(&self, hint: usize, cells: &mut [u8], block: Block)
+        requires { Square self.now.map.n (length cells.old) block.row block.column block.level }
+        ensures { Rows self.now.map.n (cell_at self.now.map.list.now) block.row block.column (2 ^ block.level) (2 ^ block.level) cells.old cells.new }
+    {
+        let at = probe::find(self.map.list, block.code, hint);
+        let w = self.map.list[at];
+        if block.level <= tiling::level_of(w) {
+            square(self.map.n, cells, block, tiling::colour_of(w));
+            return;
+        }
+        if block.level == tiles::LEVEL {
+            self.fill_tile(at, cells, block);
+            return;
+        }
+        let Four { nw, ne, sw, se } = block.quarters();
+        self.walk(at, cells, nw);
+        self.walk(at, cells, ne);
+        self.walk(at, cells, sw);
+        self.walk(at, cells, se);
     }
-    let l = level - 1;
-    let h = morton::side(l);
-    walk(n, list, at, cells, y, x, l, order, table);
-    walk(n, list, at, cells, y, x + h, l, order, table);
-    walk(n, list, at, cells, y + h, x, l, order, table);
-    walk(n, list, at, cells, y + h, x + h, l, order, table);
 }
 
 // Fills a raster with the colours of a map of size n.
@@ -137,7 +108,9 @@ pub fn fill(n: u64, list: &[u64], cells: &mut [u8])
     requires { Fills n list.now (length cells.old) }
     ensures { cells.new ≡ raster_of n list.now }
 {
-    let table = morton::spreads();
-    let order = order(&table);
-    walk(n, list, 0, cells, 0, 0, n, &order, &table);
+    let filler = Filler {
+        map: Map { n, list },
+        order: order(&Spread::new()),
+    };
+    filler.walk(0, cells, Block::whole(n));
 }

@@ -1,133 +1,155 @@
-// From a raster to its shortest list: by recursion over a block whose level falls by one, once to count and once to write.
-ghost use Rattle.std.specs.Prelude.{◌≡◌, length, drop, ◌++◌};
+// A raster as a picture, and its shortest list.
+ghost use Rattle.std.specs.Prelude.{◌≡◌, ℕ, ◌+◌, ◌<◌, length, drop, ◌++◌, get_or};
 ghost use Rattle.std.proofs.lemmas.List.Edits.{sets};
 ghost use Rattle.morton.specs.Code.{code};
+ghost use Rattle.tiling.specs.Leaf.{colours};
 ghost use Rattle.shortest.specs.Shortest.{shortest};
 ghost use Rattle.shortest.specs.Part.{part};
-ghost use Rattle.shortest.specs.Written.{inner};
+ghost use Rattle.shortest.specs.Written.{inner, Placed};
 ghost use Rattle.rasters.specs.Raster.{pixel};
-ghost use Rattle.rasters.specs.Listing.{Rastered, Pixels, Counts, Puts, Writes};
+ghost use Rattle.rasters.specs.Listing.{Rastered, Pixel, Inside, Writes};
 
-// The colour of the cell at row y and column x of a map of size n.
-fn cell(n: u64, cells: &[u8], y: u64, x: u64) -> u64
-    requires { Pixels n cells.now y x }
-    ensures { result ≡ pixel n cells.now (code y x) }
-{
-    let i = (y * morton::side(n) + x) as usize;
-    cells[i] as u64
+use morton::{Block, Four};
+use shortest::{Picture, Seen};
+
+// A map of size n, cell by cell.
+#[derive(Clone, Copy)]
+pub struct Raster<'a> {
+    pub n: u64,
+    pub cells: &'a [u8],
+    pub ghost rastered: { Rastered n cells.now },
+    pub ghost bytes: { (j : ℕ) → get_or cells.now j 0 < colours },
 }
 
-// What a block of four cells comes to.
-fn count_cells(n: u64, cells: &[u8], y: u64, x: u64) -> u64
-    requires { Counts n cells.now (code y x) y x 1 }
-    ensures { result ≡ part (pixel n cells.now) 1 (code y x) }
-{
-    let nw = cell(n, cells, y, x);
-    let ne = cell(n, cells, y, x + 1);
-    let sw = cell(n, cells, y + 1, x);
-    let se = cell(n, cells, y + 1, x + 1);
-    shortest::joined(nw, ne, sw, se)
+impl<'a> Raster<'a> {
+    // The colour of the cell at row y and column x.
+    fn cell(&self, y: u64, x: u64) -> u64
+        requires { Pixel self.now.n y x }
+        ensures { result ≡ pixel self.now.n self.now.cells.now (code y x) }
+    {
+        let i = (y * morton::side(self.n) + x) as usize;
+        self.cells[i] as u64
+    }
+
+    // The colours of a block of four cells.
+    fn four(&self, block: Block) -> Four<u64>
+        requires { Inside self.now.n block.row block.column block.level × (block.level ≡ 1) }
+        ensures nw { result.nw ≡ pixel self.now.n self.now.cells.now block.code }
+        ensures ne { result.ne ≡ pixel self.now.n self.now.cells.now (block.code + 1) }
+        ensures sw { result.sw ≡ pixel self.now.n self.now.cells.now (block.code + 2) }
+        ensures se { result.se ≡ pixel self.now.n self.now.cells.now (block.code + 3) }
+    {
+        let (y, x) = (block.row, block.column);
+        Four {
+            nw: self.cell(y, x),
+            ne: self.cell(y, x + 1),
+            sw: self.cell(y + 1, x),
+            se: self.cell(y + 1, x + 1),
+        }
+    }
+
+    // What a block of four cells comes to.
+    fn count_cells(&self, block: Block) -> u64
+        requires { Inside self.now.n block.row block.column block.level × (block.level ≡ 1) }
+        ensures { result ≡ part (pixel self.now.n self.now.cells.now) block.level block.code }
+    {
+        shortest::joined(self.four(block))
+    }
+
+    // What a block of sixteen cells comes to.
+    fn count_squares(&self, block: Block) -> u64
+        requires { Inside self.now.n block.row block.column block.level × (block.level ≡ 2) }
+        ensures { result ≡ part (pixel self.now.n self.now.cells.now) block.level block.code }
+    {
+        let quarter = block.quarters();
+        let nw = self.count_cells(quarter.nw);
+        let ne = self.count_cells(quarter.ne);
+        let sw = self.count_cells(quarter.sw);
+        let se = self.count_cells(quarter.se);
+        shortest::joined(Four { nw, ne, sw, se })
+    }
+
+    // Writes the list of a block of four cells from `at` on, or nothing if they are of one colour; what the block comes to.
+    fn put_cells(&self, block: Block, out: &mut [u64], at: u64) -> u64
+        requires { Inside self.now.n block.row block.column block.level × (block.level ≡ 1) × Placed (pixel self.now.n self.now.cells.now) out.old at block.level block.code }
+        ensures part { result ≡ part (pixel self.now.n self.now.cells.now) block.level block.code }
+        ensures left { out.new ≡ sets out.old at (inner (pixel self.now.n self.now.cells.now) block.level block.code) }
+    {
+        shortest::finish(out, at, self.four(block), block.code, 0)
+    }
+
+    // Writes the list of a block of sixteen cells from `at` on, or nothing if they are of one colour; what the block comes to.
+    fn put_squares(&self, block: Block, out: &mut [u64], at: u64) -> u64
+        requires { Inside self.now.n block.row block.column block.level × (block.level ≡ 2) × Placed (pixel self.now.n self.now.cells.now) out.old at block.level block.code }
+        ensures part { result ≡ part (pixel self.now.n self.now.cells.now) block.level block.code }
+        ensures left { out.new ≡ sets out.old at (inner (pixel self.now.n self.now.cells.now) block.level block.code) }
+    {
+        let quarter = block.quarters();
+        let nw = self.put_cells(quarter.nw, out, at);
+        let at1 = at + shortest::size(nw);
+        let ne = self.put_cells(quarter.ne, out, at1);
+        let at2 = at1 + shortest::size(ne);
+        let sw = self.put_cells(quarter.sw, out, at2);
+        let at3 = at2 + shortest::size(sw);
+        let se = self.put_cells(quarter.se, out, at3);
+        shortest::finish(out, at, Four { nw, ne, sw, se }, block.code, 1)
+    }
 }
 
-// What a block of sixteen cells comes to.
-fn count_squares(n: u64, cells: &[u8], y: u64, x: u64) -> u64
-    requires { Counts n cells.now (code y x) y x 2 }
-    ensures { result ≡ part (pixel n cells.now) 2 (code y x) }
-{
-    let nw = count_cells(n, cells, y, x);
-    let ne = count_cells(n, cells, y, x + 2);
-    let sw = count_cells(n, cells, y + 2, x);
-    let se = count_cells(n, cells, y + 2, x + 2);
-    shortest::joined(nw, ne, sw, se)
-}
+// Most looks would be for four cells or for one, so the walk ends at sixteen.
+impl<'a> Picture for Raster<'a> {
+    ghost use Rattle.std.specs.Prelude.{◌<◌};
+    ghost use Rattle.rasters.specs.Laws.Pixel.{coloured, block_fits};
 
-// What the block of the level at row y and column x comes to. Most calls would be for four cells or for one, so the recursion ends at sixteen.
-fn count(n: u64, cells: &[u8], y: u64, x: u64, level: u64) -> u64
-    requires { Counts n cells.now (code y x) y x level }
-    ensures { result ≡ part (pixel n cells.now) level (code y x) }
-{
-    if level == 0 {
-        return cell(n, cells, y, x);
-    }
-    if level == 1 {
-        return count_cells(n, cells, y, x);
-    }
-    if level == 2 {
-        return count_squares(n, cells, y, x);
-    }
-    let l = level - 1;
-    let side = morton::side(l);
-    let nw = count(n, cells, y, x, l);
-    let ne = count(n, cells, y, x + side, l);
-    let sw = count(n, cells, y + side, x, l);
-    let se = count(n, cells, y + side, x + side, l);
-    shortest::joined(nw, ne, sw, se)
-}
+    type Block = Block;
 
-// Writes the list of a block of four cells from `at` on, or nothing if they are of one colour; what the block comes to.
-fn put_cells(n: u64, cells: &[u8], out: &mut [u64], at: u64, code: u64, y: u64, x: u64) -> u64
-    requires { Puts n cells.now out.old at code y x 1 }
-    ensures part { result ≡ part (pixel n cells.now) 1 code }
-    ensures left { out.new ≡ sets out.old at (inner (pixel n cells.now) 1 code) }
-{
-    let nw = cell(n, cells, y, x);
-    let ne = cell(n, cells, y, x + 1);
-    let sw = cell(n, cells, y + 1, x);
-    let se = cell(n, cells, y + 1, x + 1);
-    shortest::finish(out, at, nw, ne, sw, se, code, 0)
-}
+    ghost colour_at = { λ r. pixel r.n r.cells.now };
 
-// Writes the list of a block of sixteen cells from `at` on, or nothing if they are of one colour; what the block comes to.
-fn put_squares(n: u64, cells: &[u8], out: &mut [u64], at: u64, code: u64, y: u64, x: u64) -> u64
-    requires { Puts n cells.now out.old at code y x 2 }
-    ensures part { result ≡ part (pixel n cells.now) 2 code }
-    ensures left { out.new ≡ sets out.old at (inner (pixel n cells.now) 2 code) }
-{
-    let nw = put_cells(n, cells, out, at, code, y, x);
-    let second = at + shortest::size(nw);
-    let ne = put_cells(n, cells, out, second, code + 4, y, x + 2);
-    let third = second + shortest::size(ne);
-    let sw = put_cells(n, cells, out, third, code + 8, y + 2, x);
-    let fourth = third + shortest::size(sw);
-    let se = put_cells(n, cells, out, fourth, code + 12, y + 2, x + 2);
-    shortest::finish(out, at, nw, ne, sw, se, code, 1)
-}
+    ghost code_of = { λ b. b.code };
 
-// Writes the list of the block of the level from `at` on, or nothing if it is of one colour; what the block comes to.
-fn put(n: u64, cells: &[u8], out: &mut [u64], at: u64, code: u64, y: u64, x: u64, level: u64) -> u64
-    requires { Puts n cells.now out.old at code y x level }
-    ensures part { result ≡ part (pixel n cells.now) level code }
-    ensures left { out.new ≡ sets out.old at (inner (pixel n cells.now) level code) }
-{
-    if level == 0 {
-        return cell(n, cells, y, x);
+    ghost level_of = { λ b. b.level };
+
+    ghost Lies = { λ r b. Inside r.n b.row b.column b.level };
+
+    ghost Opens = { λ r b. (0 < b.level) × Inside r.n b.row b.column b.level };
+
+    fn code(block: Block) -> u64
+        ensures { result ≡ block.code }
+    {
+        block.code
     }
-    if level == 1 {
-        return put_cells(n, cells, out, at, code, y, x);
+
+    fn level(block: Block) -> u64
+        ensures { result ≡ block.level }
+    {
+        block.level
     }
-    if level == 2 {
-        return put_squares(n, cells, out, at, code, y, x);
+
+    fn look(&self, block: Block) -> Seen<Block> {
+        match block.level {
+            0 => Seen::Part(self.cell(block.row, block.column)),
+            1 => Seen::Part(self.count_cells(block)),
+            2 => Seen::Part(self.count_squares(block)),
+            _ => Seen::Closer(block),
+        }
     }
-    let l = level - 1;
-    let side = morton::side(l);
-    let area = morton::area(l);
-    let nw = put(n, cells, out, at, code, y, x, l);
-    let second = at + shortest::size(nw);
-    let ne = put(n, cells, out, second, code + area, y, x + side, l);
-    let third = second + shortest::size(ne);
-    let sw = put(n, cells, out, third, code + 2 * area, y + side, x, l);
-    let fourth = third + shortest::size(sw);
-    let se = put(
-        n,
-        cells,
-        out,
-        fourth,
-        code + 3 * area,
-        y + side,
-        x + side,
-        l,
-    );
-    shortest::finish(out, at, nw, ne, sw, se, code, l)
+
+    fn draw(&self, block: Block, out: &mut [u64], at: u64) -> Seen<Block> {
+        match block.level {
+            0 => Seen::Part(self.cell(block.row, block.column)),
+            1 => Seen::Part(self.put_cells(block, out, at)),
+            2 => Seen::Part(self.put_squares(block, out, at)),
+            _ => Seen::Closer(block),
+        }
+    }
+
+    fn quarters(&self, block: Block) -> Four<Block> {
+        block.quarters()
+    }
+
+    ghost coloured = { λ r b lies k. coloured r.n r.cells.now r.bytes k };
+
+    ghost fits = { λ r b lies. block_fits b };
 }
 
 // The number of leaves of a raster's shortest list.
@@ -135,7 +157,8 @@ pub fn leaves(n: u64, cells: &[u8]) -> u64
     requires { Rastered n cells.now }
     ensures { result ≡ length (shortest (pixel n cells.now) n 0) }
 {
-    shortest::size(count(n, cells, 0, 0, n))
+    let raster = Raster { n, cells };
+    shortest::size(shortest::count(&raster, Block::whole(n)))
 }
 
 // Writes a raster's shortest list, for which there is room, and says how many leaves it has.
@@ -144,7 +167,8 @@ pub fn write(n: u64, cells: &[u8], out: &mut [u64]) -> u64
     ensures counted { result ≡ length (shortest (pixel n cells.now) n 0) }
     ensures left { out.new ≡ shortest (pixel n cells.now) n 0 ++ drop (length (shortest (pixel n cells.now) n 0)) out.old }
 {
-    let p = put(n, cells, out, 0, 0, 0, 0, n);
-    shortest::fill(out, 0, p, 0, n);
-    shortest::size(p)
+    let raster = Raster { n, cells };
+    let part = shortest::put(&raster, Block::whole(n), out, 0);
+    shortest::fill(out, 0, part, 0, n);
+    shortest::size(part)
 }

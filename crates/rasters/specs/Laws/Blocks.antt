@@ -1,9 +1,12 @@
 -- Rows of a raster, one after another and block by block.
 use Rattle.std.specs.Prelude.{◌≡◌, refl, List, ℕ, suc, ◌+◌, ◌-◌, ◌*◌, ◌/◌, ◌%◌, ◌^◌, ◌<◌, ◌≤◌, get_or}
-use Rattle.std.proofs.Common.{sym, ap, ap₂, ◌∙◌, mod-lt, div-add-mod', mul-le-mul_right, add-mul, arith, pow_pos, pow_mono, shr_lt}
+use Rattle.std.proofs.Common.{sym, ap, ap₂, ◌∙◌, mod-lt, div-add-mod', mul-le-mul_right, add-mul, subst, arith, pow_pos, pow_mono, shr_lt}
 use Rattle.std.proofs.Math.Nat.{pow-succ', zero-mod, add-mul-mod_self_right, pow-le-pow_right}
 use Rattle.std.proofs.Math.Decide.{dec_lt}
+use Rattle.morton.specs.Block.{Block as IsBlock, Quartered}
 use Rattle.morton.specs.Code.{code, row_of, column_of}
+use Rattle.morton.specs.Power.{highest}
+use Rattle.morton.specs.declared.block.Block.{Block}
 use Rattle.morton.specs.Laws.Cell.{cell_of-code, cell_inside}
 use Rattle.morton.specs.Laws.Code.{code_inside}
 use Rattle.morton.specs.Laws.Power.{two_four, exponent_le}
@@ -14,8 +17,8 @@ use Rattle.probe.specs.Seen.{Covers}
 use Rattle.probe.specs.Asked.{cell_at, Cell}
 use Rattle.tiles.specs.Tile.{Stored, codes}
 use Rattle.rasters.specs.Raster.{place_colour}
-use Rattle.rasters.specs.Blocks.{Fills, Square, Walks, Rows, Order, alone, order_of, row_of_tile, tile_cell}
-use Rattle.rasters.specs.Laws.Pixel.{square, place_lt}
+use Rattle.rasters.specs.Blocks.{Square, Rows, Order, alone, order_of, row_of_tile, tile_cell}
+use Rattle.rasters.specs.Laws.Pixel.{square, place_lt, quarter_inside}
 
 -- ---- rows
 pub rows_none : (n : ℕ) (g : ℕ → ℕ → ℕ) (y x wide : ℕ) (l : List ℕ) → Rows n g y x 0 wide l l
@@ -68,10 +71,19 @@ pub rows_as : {n y x rows wide : ℕ} {f g : ℕ → ℕ → ℕ} {before after 
 rows_as q s = record { inside = λ r c a b d e. s.inside r c a b d e ∙ q r c a b d e; outside = s.outside }
 
 -- ---- a block: in one leaf, a tile, or its quarters
-module _ (n : ℕ) (l : List ℕ) (cells y x level : ℕ) (w : Walks n l cells y x level) where
+module _ (n : ℕ) (l : List ℕ) (cells : ℕ) (b : Block) (w : Square n cells b.row b.column b.level) where
+  abbrev y : ℕ
+  y = b.row
+
+  abbrev x : ℕ
+  x = b.column
+
+  abbrev level : ℕ
+  level = b.level
+
   -- its first cell is one of the map's
-  pub walk_cell : Cell n l y x
-  walk_cell = record { size = w.square.size; formed = w.formed; row_in = omega (arith, w.square.bottom, pow_pos level); column_in = omega (arith, w.square.right, pow_pos level) }
+  pub walk_cell : Cell n y x
+  walk_cell = record { row_in = omega (arith, w.bottom, pow_pos level); column_in = omega (arith, w.right, pow_pos level) }
 
   -- in one leaf
   pub leaf-rows : {colour : ℕ} {before after : List ℕ} → Covers (cell_at l) y x level colour → Rows n (alone colour) y x (2 ^ level) (2 ^ level) before after
@@ -84,57 +96,25 @@ module _ (n : ℕ) (l : List ℕ) (cells y x level : ℕ) (w : Walks n l cells y
           rw e at (stays a (r - a) (2 ^ level) (2 ^ level) (omega arith) (omega arith))
 
       shown : (r c : ℕ) → y ≤ r → r < y + 2 ^ level → x ≤ c → c < x + 2 ^ level → colour ≡ cell_at l r c
-      shown r c a b d e = sym (v.each r c (stays_in y r w.rows a b) (stays_in x c w.columns d e))
+      shown r c a m d e = sym (v.each r c (stays_in y r b.is.rows a m) (stays_in x c b.is.columns d e))
 
 -- a tile
-pub tile_rows : (n : ℕ) (l : List ℕ) (cells y x : ℕ) → Walks n l cells y x 4 → {old tile : List ℕ} → Stored old 0 256 (codes l (code y x) 0) tile → {before after : List ℕ}
-    → Rows n (tile_cell tile y x) y x 16 16 before after → Rows n (cell_at l) y x 16 16 before after
-tile_rows n l cells y x w {tile = tile} t s = rows_as shown s
+pub tile_rows : (n : ℕ) (l : List ℕ) (cells : ℕ) (b : Block) → b.level ≡ 4 → Square n cells b.row b.column 4 → {old tile : List ℕ} → Stored old 0 256 (codes l b.code 0) tile → {before after : List ℕ}
+    → Rows n (tile_cell tile b.row b.column) b.row b.column 16 16 before after → Rows n (cell_at l) b.row b.column 16 16 before after
+tile_rows n l cells b level_is q {tile = tile} t s = rows_as shown s
   where
-    shown : (r c : ℕ) → y ≤ r → r < y + 16 → x ≤ c → c < x + 16 → tile_cell tile y x r c ≡ cell_at l r c
-    shown r c a b d e =
-        let k : ℕ = code (r - y) (c - x) in
-        let small : k < 4 ^ 4 = code_inside 4 (r - y) (c - x) (omega arith) (omega arith) (omega arith) in
-        let back = cell_of-code (r - y) (c - x) (omega arith) (omega arith) in
-        let place = aligned_place 4 y x k (omega arith) w.rows w.columns small in
-        let er : y + row_of k ≡ r = omega arith in
-        let ec : x + column_of k ≡ c = omega arith in
+    shown : (r c : ℕ) → b.row ≤ r → r < b.row + 16 → b.column ≤ c → c < b.column + 16 → tile_cell tile b.row b.column r c ≡ cell_at l r c
+    shown r c lo hi west east =
+        let z : IsBlock b.code b.row b.column 4 = subst (λ (L : ℕ). IsBlock b.code b.row b.column L) level_is b.is in
+        let k : ℕ = code (r - b.row) (c - b.column) in
+        let small : k < 4 ^ 4 = code_inside 4 (r - b.row) (c - b.column) (omega arith) (omega arith) (omega arith) in
+        let back = cell_of-code (r - b.row) (c - b.column) (omega arith) (omega arith) in
+        let place = aligned_place 4 b.row b.column k (omega arith) z.rows z.columns small in
+        let er : b.row + row_of k ≡ r = omega arith in
+        let ec : b.column + column_of k ≡ c = omega arith in
         let ek : k - 0 ≡ k = omega arith in
-        t.among k (omega arith) (omega arith) ∙ ap (λ (i : ℕ). colour_at l (code y x + i)) ek ∙ ap (colour_at l) (sym place ∙ ap₂ code er ec)
-
--- its quarters, one level down, of side h
-pub record Four (n : ℕ) (l : List ℕ) (cells y x L h : ℕ) : Type 0 where
-  pub nw : Walks n l cells y x L
-  pub ne : Walks n l cells y (x + h) L
-  pub sw : Walks n l cells (y + h) x L
-  pub se : Walks n l cells (y + h) (x + h) L
-  pub bottom : y + h ≤ 2 ^ 15
-  pub right : x + h ≤ 2 ^ 15
-
-pub four : (n : ℕ) (l : List ℕ) (cells y x level h : ℕ) → 0 < level → h ≡ 2 ^ (level - 1) → Walks n l cells y x level → Four n l cells y x (level - 1) h
-four n l cells y x level h p e w =
-    let u : level ≡ suc (level - 1) = omega arith in
-    let s : 2 ^ level ≡ 2 * 2 ^ (level - 1) = ap (λ (m : ℕ). 2 ^ m) u ∙ pow-succ' 2 (level - 1) in
-    let a = halved y (level - 1) (rw u at w.rows) in
-    let b = halved x (level - 1) (rw u at w.columns) in
-    let q = w.square in
-    let low = q.bottom in
-    let far = q.right in
-    let wide : 2 ^ n ≤ 2 ^ 15 = pow_mono q.size in
-    let square : (r c : ℕ) → r ≤ y + h → c ≤ x + h → Square n cells r c (level - 1) = (λ r c f g. record { size = q.size; whole = q.whole; bottom = omega arith; right = omega arith }) in
-    let down : (y + h) % 2 ^ (level - 1) ≡ 0 = rw e (further y (level - 1) a.0) in
-    let over : (x + h) % 2 ^ (level - 1) ≡ 0 = rw e (further x (level - 1) b.0) in
-    record {
-      nw = record { square = square y x (omega arith) (omega arith); formed = w.formed; rows = a.0; columns = b.0 };
-      ne = record { square = square y (x + h) (omega arith) (omega arith); formed = w.formed; rows = a.0; columns = over };
-      sw = record { square = square (y + h) x (omega arith) (omega arith); formed = w.formed; rows = down; columns = b.0 };
-      se = record { square = square (y + h) (x + h) (omega arith) (omega arith); formed = w.formed; rows = down; columns = over };
-      bottom = omega (arith, wide);
-      right = omega (arith, wide);
-    }
-  where
-    further : (v L : ℕ) → v % 2 ^ L ≡ 0 → (v + 2 ^ L) % 2 ^ L ≡ 0
-    further v L h = let e : v + 2 ^ L ≡ v + 1 * 2 ^ L = omega arith in ap (λ (k : ℕ). k % 2 ^ L) e ∙ add-mul-mod_self_right v 1 (2 ^ L) ∙ h
+        let ex : b.code + k ≡ code (b.row + row_of k) (b.column + column_of k) = omega (arith, z.is, place) in
+        t.among k (omega arith) (omega arith) ∙ ap (λ (i : ℕ). colour_at l (b.code + i)) ek ∙ ap (colour_at l) (ex ∙ ap₂ code er ec)
 
 -- and the four together are the block
 module _ (n : ℕ) (g : ℕ → ℕ → ℕ) (y x level h : ℕ) (p : 0 < level) (e : h ≡ 2 ^ (level - 1)) (fits : x + 2 ^ level ≤ 2 ^ n) where
@@ -168,13 +148,8 @@ module _ (n : ℕ) (g : ℕ → ℕ → ℕ) (y x level h : ℕ) (p : 0 < level)
           ∙ s₀.outside r c f (λ i j u v. o (omega (arith, t)) (omega (arith, t)) (omega (arith, t)) (omega (arith, t)))
 
 -- ---- the whole raster
-pub whole_walks : (n : ℕ) (l : List ℕ) (cells : ℕ) → Fills n l cells → Walks n l cells 0 0 n
-whole_walks n l cells f = record {
-  square = record { size = f.size; whole = f.whole; bottom = omega arith; right = omega arith };
-  formed = f.formed;
-  rows = zero-mod (2 ^ n);
-  columns = zero-mod (2 ^ n);
-}
+pub whole_square : (n cells : ℕ) → n ≤ highest → cells ≡ 4 ^ n → Square n cells 0 0 n
+whole_square n cells h w = record { size = h; whole = w; bottom = omega arith; right = omega arith }
 
 pub whole-rows : (n : ℕ) (l : List ℕ) {before after : List ℕ} → Rows n (cell_at l) 0 0 (2 ^ n) (2 ^ n) before after → (i : ℕ) → i < 4 ^ n → get_or after i 0 ≡ place_colour n l i
 whole-rows n l {after = after} s i h =
@@ -216,14 +191,34 @@ tile_row tile order y x row from o h d l =
     ap (λ (i : ℕ). get_or tile (get_or order (16 * row + i) 0) 0) e ∙ ap (λ (k : ℕ). get_or tile k 0) (o.each (16 * row + d) (omega arith) ∙ ap₂ code r c)
 
 -- the codes of a tile are the map's
-pub tile_codes : (n : ℕ) (l : List ℕ) (cells y x : ℕ) → Walks n l cells y x 4 → code y x + 256 ≤ 4 ^ n
-tile_codes n l cells y x w =
+pub tile_codes : (n cells : ℕ) (b : Block) → b.level ≡ 4 → Square n cells b.row b.column 4 → b.code + 256 ≤ 4 ^ n
+tile_codes n cells b l q =
+    let z : IsBlock b.code b.row b.column 4 = subst (λ (L : ℕ). IsBlock b.code b.row b.column L) l b.is in
     let t = cell_inside 4 255 (omega arith) (omega arith) in
-    let q = w.square in
-    let p = aligned_place 4 y x 255 (omega arith) w.rows w.columns (omega arith) in
-    let k = code_inside n (y + row_of 255) (x + column_of 255) (omega (arith, q.size)) (omega (arith, q.bottom)) (omega (arith, q.right)) in
-    omega arith
+    let p = aligned_place 4 b.row b.column 255 (omega arith) z.rows z.columns (omega arith) in
+    let k = code_inside n (b.row + row_of 255) (b.column + column_of 255) (omega (arith, q.size)) (omega (arith, q.bottom)) (omega (arith, q.right)) in
+    omega (arith, z.is)
 
 -- no block is larger than the map
-pub walk_level : (n : ℕ) (l : List ℕ) (cells y x level : ℕ) → Walks n l cells y x level → level ≤ 15
-walk_level n l cells y x level w = omega (arith, w.square.size, exponent_le level n (omega (arith, w.square.bottom)))
+pub walk_level : (n cells : ℕ) (b : Block) → Square n cells b.row b.column b.level → b.level ≤ n
+walk_level n cells b w = exponent_le b.level n (omega (arith, w.bottom))
+
+-- a quarter of a block that lies within the raster lies within it
+pub quarter_square : (n cells k y x level i j k' y' x' level' : ℕ) → 0 < level → i < 2 → j < 2 → Quartered k y x (level - 1) i j k' y' x' level'
+    → Square n cells y x level → Square n cells y' x' level'
+quarter_square n cells k y x level i j k' y' x' level' p hi hj q s =
+    let c = quarter_inside n k y x level i j k' y' x' level' p hi hj q (record { rows = s.bottom; columns = s.right }) in
+    record { size = s.size; whole = s.whole; bottom = c.rows; right = c.columns }
+
+-- the rows of a quarter, where it lies
+pub quarter_rows : (n : ℕ) (g : ℕ → ℕ → ℕ) (k y x L i j k' y' x' l r c : ℕ) {before after : List ℕ} → Quartered k y x (L - 1) i j k' y' x' l
+    → y + i * 2 ^ (L - 1) ≡ r → x + j * 2 ^ (L - 1) ≡ c → Rows n g y' x' (2 ^ l) (2 ^ l) before after → Rows n g r c (2 ^ (L - 1)) (2 ^ (L - 1)) before after
+quarter_rows n g k y x L i j k' y' x' l r c q er ec s =
+    let a : y' ≡ r = q.row ∙ er in
+    let b : x' ≡ c = q.column ∙ ec in
+    rw (a, b, q.level) at s
+
+-- the rows of the whole raster, place by place
+pub whole_rows_at : (n : ℕ) (l : List ℕ) (y x L : ℕ) {before after : List ℕ} → y ≡ 0 → x ≡ 0 → L ≡ n → Rows n (cell_at l) y x (2 ^ L) (2 ^ L) before after
+    → (i : ℕ) → i < 4 ^ n → get_or after i 0 ≡ place_colour n l i
+whole_rows_at n l y x L a b e s = whole-rows n l (rw (a, b, e) at s)

@@ -1,20 +1,24 @@
 -- Where a cell stands in a raster, and the blocks of one.
 use Rattle.std.specs.Prelude.{◌≡◌, refl, List, ℕ, zero, suc, ◌+◌, ◌*◌, ◌-◌, ◌^◌, ◌≤◌, ◌<◌, get_or}
-use Rattle.std.proofs.Common.{sym, ap, ap₂, ◌∙◌, arith, pow_pos, pow_mono, Fits}
+use Rattle.std.proofs.Common.{sym, ap, ap₂, ◌∙◌, subst, arith, pow_pos, pow_mono}
 use Rattle.std.proofs.Math.Nat.{pow-succ'}
 use Rattle.std.proofs.Math.Arith.{digits_lt}
-use Rattle.std.specs.Int.{w8}
 use Rattle.morton.specs.Code.{code, row_of, column_of}
-use Rattle.morton.specs.Block.{Quarters}
+use Rattle.morton.specs.Power.{highest}
+use Rattle.morton.specs.Block.{Block as IsBlock, Quarters, Quartered}
 use Rattle.morton.specs.Laws.Cell.{cell_of-code}
-use Rattle.morton.specs.Laws.Block.{quarters, whole}
+use Rattle.morton.specs.Laws.Block.{block_level, quarters}
+use Rattle.morton.specs.declared.block.Block.{Block}
 use Rattle.tiling.specs.Leaf.{colours}
-use Rattle.shortest.specs.Part.{size_of}
+use Rattle.shortest.specs.Part.{part}
+use Rattle.shortest.specs.Walk.{Quarter}
+use Rattle.shortest.specs.Written.{inner, Placed}
 use Rattle.shortest.proofs.Part.{part_cell}
 use Rattle.shortest.proofs.Written.{cell_inner}
-use Rattle.shortest.specs.Laws.Quarters.{Wrote}
+use Rattle.std.proofs.lemmas.List.Edits.{sets}
+use Rattle.shortest.proofs.Steps.{Closed}
 use Rattle.rasters.specs.Raster.{pixel}
-use Rattle.rasters.specs.Listing.{Rastered, Pixels, Counts}
+use Rattle.rasters.specs.Listing.{Pixel, Inside}
 
 -- the cells of a square, row by row
 pub square : (n : ℕ) → 2 ^ n * 2 ^ n ≡ 4 ^ n
@@ -31,54 +35,86 @@ pixel-at n cells y x hy hx =
     ap₂ (λ (r c : ℕ). get_or cells (r * 2 ^ n + c) 0) e.0 e.1
 
 -- bytes are colours
-pub coloured : (n : ℕ) (cells : List ℕ) → ((i : ℕ) → Fits w8 (get_or cells i 0)) → (j : ℕ) → pixel n cells j < colours
+pub coloured : (n : ℕ) (cells : List ℕ) → ((j : ℕ) → get_or cells j 0 < colours) → (j : ℕ) → pixel n cells j < colours
 unfolding pixel
-coloured n cells h j = (h (row_of j * 2 ^ n + column_of j)).fits
+coloured n cells h j = h (row_of j * 2 ^ n + column_of j)
 
-module _ (n : ℕ) (cells : List ℕ) where
-  pub pixel-bits : (y x : ℕ) → Pixels n cells y x → (y < 2 ^ 15) × (x < 2 ^ 15)
-  pixel-bits y x p = let q : 2 ^ n ≤ 2 ^ 15 = pow_mono p.rastered.size in omega (arith, p.row, p.column)
+pub pixel-bits : (n y x : ℕ) → n ≤ highest → Pixel n y x → (y < 2 ^ 15) × (x < 2 ^ 15)
+pixel-bits n y x h p = let q : 2 ^ n ≤ 2 ^ 15 = pow_mono h in omega (arith, p.row, p.column)
 
-  -- the upper left cell of a block
-  pub first-pixel : (k y x level : ℕ) → Counts n cells k y x level → Pixels n cells y x
-  first-pixel k y x level c =
-      record { rastered = c.rastered; row = omega (arith, c.rows, pow_pos level); column = omega (arith, c.columns, pow_pos level) }
+-- a block lies within the largest square, and the whole one within the map
+pub block_fits : (b : Block) → (b.level ≤ highest) × (b.code + 4 ^ b.level ≤ 4 ^ highest)
+block_fits b = (block_level _ _ _ _ b.is, b.is.fits)
 
-  pub whole_counts : Rastered n cells → Counts n cells 0 0 0 n
-  whole_counts r = record { rastered = r; block = whole n r.size; rows = omega arith; columns = omega arith }
+pub whole_inside : (n : ℕ) → Inside n 0 0 n
+whole_inside n = record { rows = omega arith; columns = omega arith }
 
-  -- a block by its own code
-  pub counts_own : (k y x level : ℕ) → Counts n cells k y x level → Counts n cells (code y x) y x level
-  counts_own k y x level c = rw (← c.block.is) c
+-- the upper left cell of a block
+pub first_pixel : (n y x level : ℕ) → Inside n y x level → Pixel n y x
+first_pixel n y x level c = record { row = omega (arith, c.rows, pow_pos level); column = omega (arith, c.columns, pow_pos level) }
 
--- the quarters of a block of a raster, of level L, side h and area q
-pub record Four (n : ℕ) (cells : List ℕ) (k y x L h q : ℕ) : Type 0 where
-  pub quarters : Quarters k y x L h q
-  pub nw : Counts n cells k y x L
-  pub ne : Counts n cells (k + q) y (x + h) L
-  pub sw : Counts n cells (k + 2 * q) (y + h) x L
-  pub se : Counts n cells (k + 3 * q) (y + h) (x + h) L
+-- the quarter i to the south and j to the east
+pub quarter_inside : (n k y x level i j k' y' x' level' : ℕ) → 0 < level → i < 2 → j < 2 → Quartered k y x (level - 1) i j k' y' x' level'
+    → Inside n y x level → Inside n y' x' level'
+quarter_inside n k y x level i j k' y' x' level' p hi hj q c =
+    let h : ℕ = 2 ^ (level - 1) in
+    let t : 2 ^ level ≡ 2 * 2 ^ (level - 1) = (let e : level ≡ suc (level - 1) = omega arith in ap (λ (m : ℕ). 2 ^ m) e ∙ pow-succ' 2 (level - 1)) in
+    let e : 2 ^ level' ≡ 2 ^ (level - 1) = ap (λ (m : ℕ). 2 ^ m) q.level in
+    let u : i * h + h ≤ 2 * h = up i h hi in
+    let v : j * h + h ≤ 2 * h = up j h hj in
+    record { rows = omega (arith, q.row, c.rows); columns = omega (arith, q.column, c.columns) }
+  where
+    up : (i h : ℕ) → i < 2 → i * h + h ≤ 2 * h
+    up zero h l = omega arith
+    up (suc zero) h l = omega arith
+    up (suc (suc i)) h l = absurd (omega arith)
 
-pub four : (n : ℕ) (cells : List ℕ) (k y x level h q : ℕ) → 0 < level → q ≡ 4 ^ (level - 1) → h ≡ 2 ^ (level - 1) → Counts n cells k y x level → Four n cells k y x (level - 1) h q
-four n cells k y x level h q p eq eh c =
-    let b = quarters k y x level h q p eq eh c.block in
-    let s : 2 ^ level ≡ 2 * 2 ^ (level - 1) = (let e : level ≡ suc (level - 1) = omega arith in ap (λ (m : ℕ). 2 ^ m) e ∙ pow-succ' 2 (level - 1)) in
-    let r = c.rows in
-    let d = c.columns in
-    record {
-      quarters = b;
-      nw = record { rastered = c.rastered; block = b.nw; rows = omega arith; columns = omega arith };
-      ne = record { rastered = c.rastered; block = b.ne; rows = omega arith; columns = omega arith };
-      sw = record { rastered = c.rastered; block = b.sw; rows = omega arith; columns = omega arith };
-      se = record { rastered = c.rastered; block = b.se; rows = omega arith; columns = omega arith };
-    }
+-- its cells, one by one: those of a block of four
+module _ (n : ℕ) (cells : List ℕ) (b : Block) (l : b.level ≡ 1) (c : Inside n b.row b.column b.level) where
+  cells_of : Quarters b.code b.row b.column 0 1 1
+  cells_of = quarters b.code b.row b.column 1 1 1 (omega arith) refl refl (subst (λ (L : ℕ). IsBlock b.code b.row b.column L) l b.is)
 
--- a cell, as a quarter that writes nothing
-pub cell_wrote : (n : ℕ) (cells : List ℕ) (k y x : ℕ) → Counts n cells k y x 0 → (o : List ℕ) (at r : ℕ) → r ≡ pixel n cells (code y x)
-    → Wrote (pixel n cells) 0 k o o at r (size_of r)
-cell_wrote n cells k y x c o at r e = record {
-  is = e ∙ ap (pixel n cells) (sym c.block.is) ∙ sym (part_cell (pixel n cells) k);
-  wrote = cell_inner (pixel n cells) k o at;
-  kept = refl;
-  size = refl;
-}
+  bounds : (b.row + 1 < 2 ^ n) × (b.column + 1 < 2 ^ n)
+  bounds = let e : 2 ^ b.level ≡ 2 = ap (λ (L : ℕ). 2 ^ L) l in omega (arith, c.rows, c.columns)
+
+  pub four_pixels : Pixel n b.row b.column × Pixel n b.row (b.column + 1) × Pixel n (b.row + 1) b.column × Pixel n (b.row + 1) (b.column + 1)
+  four_pixels =
+      let z = bounds in (
+        record { row = omega (arith, z); column = omega (arith, z) },
+        record { row = omega (arith, z); column = z.1 },
+        record { row = z.0; column = omega (arith, z) },
+        record { row = z.0; column = z.1 },
+      )
+
+  pub four_codes : (code b.row b.column ≡ b.code) × (code b.row (b.column + 1) ≡ b.code + 1) × (code (b.row + 1) b.column ≡ b.code + 2) × (code (b.row + 1) (b.column + 1) ≡ b.code + 3)
+  four_codes = let q = cells_of in (sym q.nw.is, sym q.ne.is, sym q.sw.is, sym q.se.is)
+
+  -- four of them lie within the largest square
+  pub four_fit : b.code + 4 ≤ 4 ^ highest
+  four_fit = omega (arith, cells_of.codes)
+
+-- a block's quarter, as the walk down a picture has it
+pub quarter_of : {k y x L i j k' y' x' l : ℕ} → Quartered k y x (L - 1) i j k' y' x' l → Quarter k L (2 * i + j) k' l
+quarter_of q = record { code = q.code; level = q.level }
+
+pub closed : (n : ℕ) (cells : List ℕ) → ((j : ℕ) → get_or cells j 0 < colours) → (b : Block) → 0 < b.level → Closed (pixel n cells) b.level b.code b.code b.level
+closed n cells bytes b p = record { coloured = coloured n cells bytes; some = p; same_level = refl; same_code = refl; low = (block_fits b).0; codes = (block_fits b).1 }
+
+-- a single cell
+module _ (n : ℕ) (cells : List ℕ) (b : Block) (l : b.level ≡ 0) where
+  pub single_part : pixel n cells (code b.row b.column) ≡ part (pixel n cells) b.level b.code
+  single_part = ap (pixel n cells) (sym b.is.is) ∙ rw l (sym (part_cell (pixel n cells) b.code))
+
+  pub single_inner : (o : List ℕ) (at : ℕ) → o ≡ sets o at (inner (pixel n cells) b.level b.code)
+  single_inner o at = rw l (cell_inner (pixel n cells) b.code o at)
+
+-- the whole square, as a block of level L at the code k
+module _ (n : ℕ) (f : ℕ → ℕ) (k L : ℕ) (ek : k ≡ 0) (eL : L ≡ n) where
+  pub whole_part : (r : ℕ) → r ≡ part f L k → r ≡ part f n 0
+  whole_part r h = rw (ek, eL) at h
+
+  pub whole_wrote : (o o' : List ℕ) → o' ≡ sets o 0 (inner f L k) → o' ≡ sets o 0 (inner f n 0)
+  whole_wrote o o' h = rw (ek, eL) at h
+
+  pub whole_put : (o : List ℕ) → Placed f o 0 n 0 → Placed f o 0 L k
+  whole_put o h = rw (ek, eL) h
