@@ -1,5 +1,5 @@
 -- The painter's scene shows the overlay's cells: what is biased stands for the row and the column.
-use Rattle.std.specs.Prelude.{◌≡◌, List, [], ℕ, ◌+◌, ◌≤◌, ◌<◌, ℤ, pos, neg_ℤ, ◌+ℤ◌, ◌-ℤ◌, nat_abs}
+use Rattle.std.specs.Prelude.{◌≡◌, List, [], ℕ, ◌+◌, ◌≤◌, ◌<◌, ℤ, pos, neg_ℤ, ◌+ℤ◌, ◌-ℤ◌, nat_abs, Result, Ok, Err}
 use Rattle.std.proofs.Common.{sym, ap, ◌∙◌, subst, arith, SFits, to_z, of_z}
 use Rattle.std.proofs.Math.Path.{ap₂}
 use Rattle.std.proofs.Math.IntN.{+ℤ_assoc, +ℤ_comm}
@@ -9,6 +9,7 @@ use Rattle.tiling.specs.Map.{limit, colour_in}
 use Rattle.tiling.specs.Leaf.{colours}
 use Rattle.tiling.specs.Laws.Check.{tiles_formed}
 use Rattle.refusal.specs.Answer.{gives, refuses}
+use Rattle.refusal.specs.Read.{rule_of, number_of}
 use Rattle.refusal.specs.declared.Refusal.{Refusal}
 use Rattle.shortest.specs.Shortest.{shortest}
 use Rattle.shortest.specs.Outcome.{Outcome, fitting}
@@ -29,8 +30,6 @@ use Rattle.overlays.specs.Overlay.{window_of, overlay_cell, by_code, judged, ove
 use Rattle.overlays.specs.declared.Frame.{Frame}
 use Rattle.overlays.specs.Scenes.{unless, scene_of}
 use Rattle.overlays.specs.Laws.Checks.{Near, Right, judged_right, fine_passes}
-use Rattle.overlays.specs.declared.Verdict.{Verdict}
-use Rattle.overlays.specs.declared.Verdict.TheVariants.{Fine, Bad}
 use Rattle.overlays.specs.declared.Window.{Window}
 
 -- ---- numbers that are near, as the code holds them
@@ -95,13 +94,13 @@ module _ (o : Operation) (n : ℕ) (a : List ℕ) (m : ℕ) (b : List ℕ) (s : 
       (picture (scene_of o n m s w) a b) (coloured (scene_of o n m s w) a b) (λ j l. pictures j)
 
 -- ---- what the whole call comes to
-module _ (o : Operation) (n : ℕ) (a : List ℕ) (m : ℕ) (b : List ℕ) (s : Shift) (w : Window) (v : Verdict) (e : (x : Outcome) → unless v x ≡ judged n a m b s w x) where
+module _ (o : Operation) (n : ℕ) (a : List ℕ) (m : ℕ) (b : List ℕ) (s : Shift) (w : Window) (v : Result (Unit {0}) Refusal) (e : (x : Outcome) → unless v x ≡ judged n a m b s w x) where
   -- a refusal
-  pub judged_bad : (r : Refusal) → v ≡ Bad r → (x : Outcome) → judged n a m b s w x ≡ refuses r.rule r.number
-  judged_bad r f x = sym (e x) ∙ ap (λ (z : Verdict). unless z x) f
+  pub judged_bad : (r : Refusal) → v ≡ Err r → (x : Outcome) → judged n a m b s w x ≡ refuses (rule_of r) (number_of r)
+  judged_bad r f x = sym (e x) ∙ ap (λ (z : Result (Unit {0}) Refusal). unless z x) f
 
   -- all is right
-  module _ (f : v ≡ Fine) where
+  module _ (f : v ≡ Ok tt) where
     pub judged_fine : (x : Outcome) → judged n a m b s w x ≡ x
     judged_fine x = sym (e x) ∙ fine_passes v f x
 
