@@ -1,7 +1,8 @@
 -- Raster to list and back.
 use Rattle.std.specs.Prelude.{not, List, ℕ, ◌^◌, ltb, eqb, length}
 use Rattle.refusal.specs.Rules as rule
-use Rattle.refusal.specs.Answer.{gives, refuse_if, refuse_wrong}
+use Rattle.refusal.specs.Answer.{gives, refuse_if}
+use Rattle.refusal.specs.Judged.{refuse_wrong}
 use Rattle.tiling.specs.Map.{limit}
 use Rattle.tiling.specs.Check.{checked}
 use Rattle.shortest.specs.Shortest.{shortest}

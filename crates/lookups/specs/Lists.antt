@@ -1,7 +1,8 @@
 -- The calls on one list: the list check and the lookup.
 use Rattle.std.specs.Prelude.{not, List, ℕ, ltb, ℤ, length}
 use Rattle.refusal.specs.Rules as rule
-use Rattle.refusal.specs.Answer.{Answer, gives, refuse_if, refuse_wrong}
+use Rattle.refusal.specs.Answer.{Answer, gives, refuse_if}
+use Rattle.refusal.specs.Judged.{refuse_wrong}
 use Rattle.tiling.specs.Map.{limit, inside, colour_in}
 use Rattle.tiling.specs.Check.{checked}
 

@@ -1,7 +1,8 @@
 -- Window, intersection, union and difference.
 use Rattle.std.specs.Prelude.{List, ℕ, ltb, ℤ, pos, ◌+ℤ◌, ◌-ℤ◌}
 use Rattle.refusal.specs.Rules as rule
-use Rattle.refusal.specs.Answer.{refuse_if, refuse_wrong}
+use Rattle.refusal.specs.Answer.{refuse_if}
+use Rattle.refusal.specs.Judged.{refuse_wrong}
 use Rattle.morton.specs.Code.{row_of, column_of}
 use Rattle.tiling.specs.Map.{limit, colour_in}
 use Rattle.tiling.specs.Check.{checked}

@@ -1,5 +1,5 @@
 -- What a call answers: what it gives, or a refusal's No. and its number.
-use Rattle.std.specs.Prelude.{Bool, true, false, ℕ, Result, Ok, Err}
+use Rattle.std.specs.Prelude.{Bool, true, false, ℕ}
 
 pub data Answer (A : Type 0) : Type 0 where
   gives : A → Answer A
@@ -9,8 +9,3 @@ pub data Answer (A : Type 0) : Type 0 where
 abbrev pub refuse_if : {A : Type 0} → Bool → ℕ → ℕ → Answer A → Answer A
 refuse_if true rule number after = refuses rule number
 refuse_if false rule number after = after
-
--- a list that is not well formed is refused, with what its check found; else what comes after
-abbrev pub refuse_wrong : {A : Type 0} → ℕ → Result (Unit {0}) ℕ → Answer A → Answer A
-refuse_wrong rule (Ok u) after = after
-refuse_wrong rule (Err i) after = refuses rule i

@@ -4,7 +4,8 @@ use Rattle.std.proofs.Common.{ap₂, arith, ltb-false, lt-ltb, le-ltb}
 use Rattle.std.proofs.Math.Nat.{pow-le-pow_right, one-le-pow}
 use Rattle.std.proofs.lemmas.Bool.{not-false}
 use Rattle.refusal.specs.Rules as rule
-use Rattle.refusal.specs.Answer.{Answer, gives, refuses, refuse_if, refuse_wrong}
+use Rattle.refusal.specs.Answer.{Answer, gives, refuses, refuse_if}
+use Rattle.refusal.specs.Judged.{refuse_wrong}
 use Rattle.morton.specs.Code.{code}
 use Rattle.morton.specs.Laws.Code.{code_lt}
 use Rattle.tiling.specs.Leaf.{level_of}

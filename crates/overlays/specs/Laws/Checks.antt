@@ -2,7 +2,8 @@
 use Rattle.std.specs.Prelude.{◌≡◌, refl, Bool, true, false, List, [], ℕ, ◌<◌, ◌≤◌, ltb, ℤ, nat_abs, Result, Ok, Err}
 use Rattle.std.proofs.Common.{arith, lt-ltb, le-ltb, ltb-false}
 use Rattle.refusal.specs.Rules as rule
-use Rattle.refusal.specs.Answer.{gives, refuses, refuse_if, refuse_wrong}
+use Rattle.refusal.specs.Answer.{gives, refuses, refuse_if}
+use Rattle.refusal.specs.Judged.{refuse_wrong}
 use Rattle.refusal.specs.declared.Refusal.{Refusal}
 use Rattle.tiling.specs.Map.{limit}
 use Rattle.tiling.specs.Check.{checked}
