@@ -1,3 +1,2 @@
 pub mod Below
 pub mod Names
-pub mod Pairs

@@ -1,10 +1,9 @@
 // One number for each answer.
-ghost use Rattle.std.specs.Prelude.{◌≡◌, ◌+◌, ◌*◌, ◌^◌, ◌<◌, ◌≤◌};
-ghost use Rattle.answers.specs.Answers.{counted, looked, near};
+ghost use Rattle.std.specs.Prelude.{◌≡◌, ◌+◌, ◌*◌, ◌^◌, ◌<◌};
+ghost use Rattle.refusal.specs.Read.{rule_of, number_of, answered};
 ghost use Rattle.capi.specs.Code.{coded};
 ghost use Rattle.capi.specs.Below.{Below, itself};
 
-use oboeridge::{Counted, Looked, Near};
 use refusal::Refusal;
 
 // The answer to a number that names nothing, and to a place for a pair that is too short.
@@ -12,38 +11,19 @@ pub const UNNAMED: u64 = 18446744073709551615;
 
 // rule × 2^32 + number.
 pub fn refused(r: Refusal) -> u64
-    requires { (r.rule ≤ 12) × (r.number < 2 ^ 32) }
-    ensures { result ≡ r.rule * 2 ^ 32 + r.number }
+    requires { number_of r < 2 ^ 32 }
+    ensures { result ≡ rule_of r * 2 ^ 32 + number_of r }
 {
-    r.rule * 4294967296 + r.number
+    r.rule() * 4294967296 + r.number()
 }
 
-pub fn count(r: Counted) -> u64
-    requires { Below itself (counted r) }
-    ensures { result ≡ coded (counted r) }
+// What is given, or the refusal's number.
+pub fn number(answer: Result<u64, Refusal>) -> u64
+    requires { Below itself (answered answer) }
+    ensures { result ≡ coded (answered answer) }
 {
-    match r {
-        Counted::Count(k) => k,
-        Counted::Refused(q) => refused(q),
-    }
-}
-
-pub fn colour(r: Looked) -> u64
-    requires { Below itself (looked r) }
-    ensures { result ≡ coded (looked r) }
-{
-    match r {
-        Looked::Colour(c) => c as u64,
-        Looked::Refused(q) => refused(q),
-    }
-}
-
-pub fn code(r: Near) -> u64
-    requires { Below itself (near r) }
-    ensures { result ≡ coded (near r) }
-{
-    match r {
-        Near::Code(k) => k,
-        Near::Refused(q) => refused(q),
+    match answer {
+        Ok(value) => value,
+        Err(r) => refused(r),
     }
 }

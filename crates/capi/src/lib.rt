@@ -1,7 +1,7 @@
 // The calls for C and for Rust: each is one of the public calls, and answers one number.
 //
 // A refusal is rule × 2^32 + number; what is given is the value alone. The header for C is include/oboeridge.h.
-#![tactic(auto)]
+#![tactic(auto, using(crate::specs::Laws::Below::room))]
 
 ghost use Rattle.std.specs.Prelude.{◌≡◌, length, cond, ltb};
 ghost use Rattle.shortest.specs.Outcome.{written, left};
@@ -12,9 +12,9 @@ ghost use Rattle.place.specs.Placing.{placed};
 ghost use Rattle.place.specs.declared.Place.TheVariants.{Cells as Place-as-Cells, OnGround as Place-as-OnGround};
 ghost use Rattle.overlays.specs.Overlay.{overlaid, windowed};
 ghost use Rattle.overlays.specs.declared.Frame.TheVariants.{OfFirst as Frame-as-OfFirst, At as Frame-as-At};
-ghost use Rattle.capi.specs.Code.{coded, unnamed, direction_of, by_direction, operation_of, by_operation, pair_coded, pair_left};
+ghost use Rattle.std.specs.Option.{option_map_or};
+ghost use Rattle.capi.specs.Code.{coded, unnamed, direction_of, operation_of, pair_coded, pair_left};
 
-use names::{Chosen, Led};
 use oboeridge::{Cell, Frame, Ground, Place, Shift, Window};
 
 mod codes;
@@ -25,25 +25,24 @@ mod pairs;
 pub extern "C" fn oboe_check(n: u64, list: &[u64]) -> u64
     ensures { result ≡ coded (list_check n list.now) }
 {
-    codes::count(oboeridge::check(n, list))
+    codes::number(oboeridge::check(n, list))
 }
 
 #[unsafe(no_mangle)]
 pub extern "C" fn oboe_lookup(n: u64, list: &[u64], row: i64, column: i64) -> u64
     ensures { result ≡ coded (cell_lookup n list.now row column) }
 {
-    codes::colour(oboeridge::lookup(n, list, Cell { row, column }))
+    codes::number(oboeridge::lookup(n, list, Cell { row, column }).map(u64::from))
 }
 
 #[unsafe(no_mangle)]
 pub extern "C" fn oboe_neighbour(n: u64, code: u64, level: u64, direction: u64) -> u64
-    ensures { result ≡ by_direction (direction_of direction) (λ d. coded (neighbour n code level d)) unnamed }
+    ensures { result ≡ option_map_or (λ d. coded (neighbour n code level d)) (direction_of direction) unnamed }
 {
-    let named = names::direction_of(direction);
-    let Led::Of(d) = named else {
+    let Some(d) = names::direction_of(direction) else {
         return codes::UNNAMED;
     };
-    codes::code(oboeridge::neighbour(n, code, level, d))
+    codes::number(oboeridge::neighbour(n, code, level, d))
 }
 
 #[unsafe(no_mangle)]
@@ -92,7 +91,7 @@ pub extern "C" fn oboe_window(
     ensures answered { result ≡ coded (written (windowed n list.now (record { wy = wy; wx = wx; size = w }) (length out.old))) }
     ensures left { out.new ≡ left (windowed n list.now (record { wy = wy; wx = wx; size = w }) (length out.old)) out.old }
 {
-    codes::count(oboeridge::window_of(n, list, Window { wy, wx, size: w }, out))
+    codes::number(oboeridge::window_of(n, list, Window { wy, wx, size: w }, out))
 }
 
 #[unsafe(no_mangle)]
@@ -100,7 +99,7 @@ pub extern "C" fn oboe_to_list(n: u64, cells: &[u8], out: &mut [u64]) -> u64
     ensures answered { result ≡ coded (written (raster_to_list n cells.now (length out.old))) }
     ensures left { out.new ≡ left (raster_to_list n cells.now (length out.old)) out.old }
 {
-    codes::count(oboeridge::to_list(n, cells, out))
+    codes::number(oboeridge::to_list(n, cells, out))
 }
 
 #[unsafe(no_mangle)]
@@ -108,7 +107,27 @@ pub extern "C" fn oboe_to_raster(n: u64, list: &[u64], cells: &mut [u8]) -> u64
     ensures answered { result ≡ coded (written (list_to_raster n list.now (length cells.old))) }
     ensures left { cells.new ≡ left (list_to_raster n list.now (length cells.old)) cells.old }
 {
-    codes::count(oboeridge::to_raster(n, list, cells))
+    codes::number(oboeridge::to_raster(n, list, cells))
+}
+
+// The overlay under the operation that a number names, over the window of a frame.
+fn overlay(
+    operation: u64,
+    n: u64,
+    first: &[u64],
+    m: u64,
+    second: &[u64],
+    shift: Shift,
+    frame: Frame,
+    out: &mut [u64],
+) -> u64
+    ensures answered { result ≡ option_map_or (λ o. coded (written (overlaid o n first.now m second.now shift frame (length out.old)))) (operation_of operation) unnamed }
+    ensures left { out.new ≡ option_map_or (λ o. left (overlaid o n first.now m second.now shift frame (length out.old)) out.old) (operation_of operation) out.old }
+{
+    let Some(o) = names::operation_of(operation) else {
+        return codes::UNNAMED;
+    };
+    codes::number(oboeridge::overlay(o, n, first, m, second, shift, frame, out))
 }
 
 #[unsafe(no_mangle)]
@@ -125,15 +144,11 @@ pub extern "C" fn oboe_overlay(
     w: u64,
     out: &mut [u64],
 ) -> u64
-    ensures answered { result ≡ by_operation (operation_of operation) (λ o. coded (written (overlaid o n first.now m second.now (record { dy = dy; dx = dx }) (Frame-as-At (record { wy = wy; wx = wx; size = w })) (length out.old)))) unnamed }
-    ensures left { out.new ≡ by_operation (operation_of operation) (λ o. left (overlaid o n first.now m second.now (record { dy = dy; dx = dx }) (Frame-as-At (record { wy = wy; wx = wx; size = w })) (length out.old)) out.old) out.old }
+    ensures answered { result ≡ option_map_or (λ o. coded (written (overlaid o n first.now m second.now (record { dy = dy; dx = dx }) (Frame-as-At (record { wy = wy; wx = wx; size = w })) (length out.old)))) (operation_of operation) unnamed }
+    ensures left { out.new ≡ option_map_or (λ o. left (overlaid o n first.now m second.now (record { dy = dy; dx = dx }) (Frame-as-At (record { wy = wy; wx = wx; size = w })) (length out.old)) out.old) (operation_of operation) out.old }
 {
-    let named = names::operation_of(operation);
-    let Chosen::Of(o) = named else {
-        return codes::UNNAMED;
-    };
     let frame = Frame::At(Window { wy, wx, size: w });
-    codes::count(oboeridge::overlay(o, n, first, m, second, Shift { dy, dx }, frame, out))
+    overlay(operation, n, first, m, second, Shift { dy, dx }, frame, out)
 }
 
 #[unsafe(no_mangle)]
@@ -147,15 +162,11 @@ pub extern "C" fn oboe_overlay_own(
     dx: i64,
     out: &mut [u64],
 ) -> u64
-    ensures answered { result ≡ by_operation (operation_of operation) (λ o. coded (written (overlaid o n first.now m second.now (record { dy = dy; dx = dx }) Frame-as-OfFirst (length out.old)))) unnamed }
-    ensures left { out.new ≡ by_operation (operation_of operation) (λ o. left (overlaid o n first.now m second.now (record { dy = dy; dx = dx }) Frame-as-OfFirst (length out.old)) out.old) out.old }
+    ensures answered { result ≡ option_map_or (λ o. coded (written (overlaid o n first.now m second.now (record { dy = dy; dx = dx }) Frame-as-OfFirst (length out.old)))) (operation_of operation) unnamed }
+    ensures left { out.new ≡ option_map_or (λ o. left (overlaid o n first.now m second.now (record { dy = dy; dx = dx }) Frame-as-OfFirst (length out.old)) out.old) (operation_of operation) out.old }
 {
-    let named = names::operation_of(operation);
-    let Chosen::Of(o) = named else {
-        return codes::UNNAMED;
-    };
-    codes::count(oboeridge::overlay(
-        o,
+    overlay(
+        operation,
         n,
         first,
         m,
@@ -163,5 +174,5 @@ pub extern "C" fn oboe_overlay_own(
         Shift { dy, dx },
         Frame::OfFirst,
         out,
-    ))
+    )
 }

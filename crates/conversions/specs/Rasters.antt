@@ -2,12 +2,12 @@
 use Rattle.std.specs.Prelude.{not, List, ℕ, ◌^◌, ltb, eqb, length}
 use Rattle.refusal.specs.Rules as rule
 use Rattle.refusal.specs.Answer.{gives, refuse_if}
+use Rattle.refusal.specs.Judged.{refuse_wrong}
 use Rattle.tiling.specs.Map.{limit}
 use Rattle.tiling.specs.Check.{checked}
 use Rattle.shortest.specs.Shortest.{shortest}
 use Rattle.shortest.specs.Outcome.{Outcome, fitting}
 use Rattle.rasters.specs.Raster.{pixel, raster_of}
-use Rattle.answers.specs.Judged.{refuse_wrong}
 
 -- raster to list: 1, 10, 5; the shortest list of those cells
 unfoldable pub raster_to_list : ℕ → List ℕ → ℕ → Outcome

@@ -8,14 +8,16 @@ pub fn say(rt: &impl Print, text: &[u8]) -> io::Result<()> {
     rt.write_all(text)
 }
 
-// A call gives a number.
-pub fn given(rt: &impl Print, value: u64) -> io::Result<()> {
-    println!(rt; ": {value}")
+// What a call answers that gives a number.
+pub fn answer(rt: &impl Print, answer: Result<u64, Refusal>) -> io::Result<()> {
+    match answer {
+        Ok(value) => println!(rt; ": {value}"),
+        Err(r) => refused(rt, r),
+    }
 }
 
 pub fn refused(rt: &impl Print, r: Refusal) -> io::Result<()> {
-    let (rule, number) = (r.rule, r.number);
-    println!(rt; ": refusal {rule}, number {number}")
+    println!(rt; ": {r}")
 }
 
 // A number that may be negative.

@@ -2,9 +2,9 @@
 use Rattle.std.specs.Prelude.{not, List, ℕ, ltb, ℤ, length}
 use Rattle.refusal.specs.Rules as rule
 use Rattle.refusal.specs.Answer.{Answer, gives, refuse_if}
+use Rattle.refusal.specs.Judged.{refuse_wrong}
 use Rattle.tiling.specs.Map.{limit, inside, colour_in}
 use Rattle.tiling.specs.Check.{checked}
-use Rattle.answers.specs.Judged.{refuse_wrong}
 
 -- list check: 1, 3; the number of leaves
 unfoldable pub list_check : ℕ → List ℕ → Answer ℕ

@@ -1,63 +1,36 @@
 // Calls on one list: the check, and the colour of a cell.
 ghost use Rattle.std.specs.Prelude.{◌≡◌};
-ghost use Rattle.answers.specs.Answers.{counted, looked};
+ghost use Rattle.refusal.specs.Read.{answered};
 ghost use Rattle.lookups.specs.Lists.{list_check, cell_lookup};
 
-use answers::{Counted, Looked};
 use refusal::Refusal;
-use tiling::Checked;
 
 // A cell, by its row from the north and its column from the west, which may be negative.
-#[derive(Clone, Copy)]
+#[derive(Clone, Copy, Debug, PartialEq, Eq)]
 pub struct Cell {
     pub row: i64,
     pub column: i64,
 }
 
 // The number of leaves of a list that is well formed for a map of size n.
-pub fn check(n: u64, list: &[u64]) -> Counted
-    ensures { counted result ≡ list_check n list.now }
+#[tactic(auto, unfolding(crate::specs::Lists::list_check))]
+pub fn check(n: u64, list: &[u64]) -> Result<u64, Refusal>
+    ensures { answered result ≡ list_check n list.now }
 {
-    if tiling::LIMIT < n {
-        return Counted::Refused(Refusal {
-            rule: refusal::SIZE,
-            number: 0,
-        });
-    }
-    let found = tiling::check(n, list);
-    match found {
-        Checked::Tiles => Counted::Count(list.len() as u64),
-        Checked::Wrong(i) => Counted::Refused(Refusal {
-            rule: refusal::FIRST_LIST,
-            number: i as u64,
-        }),
-    }
+    tiling::sized(n, 0)?;
+    tiling::check(n, list).map_err(|i| Refusal::FirstList(i as u64))?;
+    Ok(list.len() as u64)
 }
 
 // The colour of a cell of a map of size n.
-pub fn lookup(n: u64, list: &[u64], cell: Cell) -> Looked
-    ensures { looked result ≡ cell_lookup n list.now cell.row cell.column }
+#[tactic(auto, using(tiling::specs::Laws::Check::tiles_formed), unfolding(crate::specs::Lists::cell_lookup))]
+pub fn lookup(n: u64, list: &[u64], cell: Cell) -> Result<u8, Refusal>
+    ensures { answered result ≡ cell_lookup n list.now cell.row cell.column }
 {
-    if tiling::LIMIT < n {
-        return Looked::Refused(Refusal {
-            rule: refusal::SIZE,
-            number: 0,
-        });
+    tiling::sized(n, 0)?;
+    tiling::check(n, list).map_err(|i| Refusal::FirstList(i as u64))?;
+    if !tiling::inside(n, cell.row, cell.column) {
+        return Err(Refusal::Outside);
     }
-    let found = tiling::check(n, list);
-    if let Checked::Wrong(i) = found {
-        return Looked::Refused(Refusal {
-            rule: refusal::FIRST_LIST,
-            number: i as u64,
-        });
-    }
-    let row = cell.row;
-    let column = cell.column;
-    if !tiling::inside(n, row, column) {
-        return Looked::Refused(Refusal {
-            rule: refusal::OUTSIDE,
-            number: 0,
-        });
-    }
-    Looked::Colour(probe::colour_in(n, list, row, column))
+    Ok(probe::colour_in(n, list, cell.row, cell.column))
 }

@@ -1,14 +1,13 @@
 // The neighbour of a block: the block of the same level one side away.
 ghost use Rattle.std.specs.Prelude.{◌≡◌, ◌<◌, ◌≤◌, ◌^◌, pos, ◌+ℤ◌, ◌*ℤ◌, nat_abs};
 ghost use Rattle.morton.specs.Power.{highest};
-ghost use Rattle.answers.specs.Answers.{near};
+ghost use Rattle.refusal.specs.Read.{answered};
 ghost use Rattle.lookups.specs.Neighbour.{is_block, southward, eastward, neighbour};
 
-use answers::Near;
 use refusal::Refusal;
 
 // The eight directions, clockwise from north.
-#[derive(Clone, Copy)]
+#[derive(Clone, Copy, Debug, PartialEq, Eq)]
 pub enum Direction {
     North,
     NorthEast,
@@ -20,39 +19,32 @@ pub enum Direction {
     NorthWest,
 }
 
-// How many sides to the south a direction leads.
-fn southward(direction: Direction) -> i64
-    ensures { result ≡ southward direction }
-{
-    match direction {
-        Direction::North => -1,
-        Direction::NorthEast => -1,
-        Direction::East => 0,
-        Direction::SouthEast => 1,
-        Direction::South => 1,
-        Direction::SouthWest => 1,
-        Direction::West => 0,
-        Direction::NorthWest => -1,
+impl Direction {
+    // How many sides to the south it leads.
+    fn southward(self) -> i64
+        ensures { result ≡ southward self }
+    {
+        match self {
+            Direction::NorthWest | Direction::North | Direction::NorthEast => -1,
+            Direction::West | Direction::East => 0,
+            Direction::SouthWest | Direction::South | Direction::SouthEast => 1,
+        }
     }
-}
 
-// How many sides to the east a direction leads.
-fn eastward(direction: Direction) -> i64
-    ensures { result ≡ eastward direction }
-{
-    match direction {
-        Direction::North => 0,
-        Direction::NorthEast => 1,
-        Direction::East => 1,
-        Direction::SouthEast => 1,
-        Direction::South => 0,
-        Direction::SouthWest => -1,
-        Direction::West => -1,
-        Direction::NorthWest => -1,
+    // How many sides to the east it leads.
+    fn eastward(self) -> i64
+        ensures { result ≡ eastward self }
+    {
+        match self {
+            Direction::NorthWest | Direction::West | Direction::SouthWest => -1,
+            Direction::North | Direction::South => 0,
+            Direction::NorthEast | Direction::East | Direction::SouthEast => 1,
+        }
     }
 }
 
 // A row or a column, so many sides on; it may be negative.
+#[tactic(auto, using(tiling::specs::Laws::Signed::abs_once, tiling::specs::Laws::Signed::abs_sum, tiling::specs::Laws::Signed::small_fits))]
 fn stepped(v: u64, ways: i64, side: u64) -> i64
     requires { (v < 2 ^ 16) × (nat_abs ways ≤ 1) × (side ≤ 2 ^ highest) }
     ensures { result ≡ pos v +ℤ ways *ℤ pos side }
@@ -73,29 +65,18 @@ fn is_block(n: u64, code: u64, level: u64) -> bool
 
 // The code of the block of the same level one side away, in a square of size n.
 #[tactic(auto, unfolding(crate::specs::Neighbour::neighbour))]
-pub fn neighbour(n: u64, code: u64, level: u64, direction: Direction) -> Near
-    ensures { near result ≡ neighbour n code level direction }
+pub fn neighbour(n: u64, code: u64, level: u64, direction: Direction) -> Result<u64, Refusal>
+    ensures { answered result ≡ neighbour n code level direction }
 {
-    if tiling::LIMIT < n {
-        return Near::Refused(Refusal {
-            rule: refusal::SIZE,
-            number: 0,
-        });
-    }
+    tiling::sized(n, 0)?;
     if !is_block(n, code, level) {
-        return Near::Refused(Refusal {
-            rule: refusal::BLOCK_ADDRESS,
-            number: 0,
-        });
+        return Err(Refusal::BlockAddress);
     }
     let side = morton::side(level);
-    let row = stepped(morton::row_of(code), southward(direction), side);
-    let column = stepped(morton::column_of(code), eastward(direction), side);
+    let row = stepped(morton::row_of(code), direction.southward(), side);
+    let column = stepped(morton::column_of(code), direction.eastward(), side);
     if !tiling::inside(n, row, column) {
-        return Near::Refused(Refusal {
-            rule: refusal::OUTSIDE,
-            number: 0,
-        });
+        return Err(Refusal::Outside);
     }
-    Near::Code(tiling::cell_code(n, row, column))
+    Ok(tiling::cell_code(n, row, column))
 }

@@ -1,24 +1,24 @@
 -- What the calls promise, stated without the way they find it.
-use Rattle.std.specs.Prelude.{◌≡◌, List, ◌↔◌, ℕ, ◌+◌, ◌*◌, ◌^◌, ◌<◌, ◌≤◌, ℤ, pos, length, drop, get_or}
+use Rattle.std.specs.Prelude.{◌≡◌, List, ◌↔◌, ℕ, ◌+◌, ◌*◌, ◌^◌, ◌<◌, ◌≤◌, ℤ, pos, length, drop, get_or, Result}
 use Rattle.std.proofs.Common.{subst}
 use Rattle.refusal.specs.Answer.{Answer, gives, refuses}
+use Rattle.refusal.specs.Read.{answered}
+use Rattle.refusal.specs.Laws.OneAnswer.{one_answer}
+use Rattle.refusal.specs.declared.Refusal.{Refusal}
 use Rattle.tiling.specs.Leaf.{colours}
 use Rattle.tiling.specs.Map.{limit, colour_at, colour_in}
 use Rattle.tiling.specs.WellFormed.{WellFormed}
-use Rattle.place.specs.Answer.{answered}
 use Rattle.place.specs.Placing.{placed}
 use Rattle.place.specs.Allowed.{Places, Lies}
 use Rattle.place.specs.Laws.Exactly.{places, from_places, lies, from_lies}
 use Rattle.place.specs.declared.Ground.{Ground}
 use Rattle.place.specs.declared.Place.{Place}
 use Rattle.place.specs.declared.Place.TheVariants.{OnGround}
-use Rattle.place.specs.declared.Placed.{Placed}
 use Rattle.place.specs.declared.Shift.{Shift}
 use Rattle.shortest.specs.Shortest.{shortest, ShowsPicture}
 use Rattle.shortest.specs.Demand.{IsShortest, NoRoom}
 use Rattle.shortest.specs.Outcome.{Outcome, fitting, left}
 use Rattle.rasters.specs.Raster.{pixel}
-use Rattle.answers.specs.Answers.{counted, looked, near}
 use Rattle.lookups.specs.Lists.{list_check, cell_lookup}
 use Rattle.lookups.specs.Neighbour.{neighbour}
 use Rattle.conversions.specs.Rasters.{raster_to_list, list_to_raster}
@@ -35,27 +35,22 @@ use Rattle.overlays.specs.Laws.Overlays.{overlaid_allowed, allowed_overlaid, win
 use Rattle.overlays.specs.declared.Window.{Window}
 use Rattle.overlays.specs.declared.Frame.{Frame}
 use Rattle.painter.specs.declared.operations.Operation.{Operation}
-use Rattle.answers.specs.Laws.OneAnswer as one
-use Rattle.place.specs.Laws.OneAnswer as place
 use Rattle.lookups.specs.Laws.Exactly.{checks, from_checks, looks_up, from_looks, nears_by, from_nears}
 use Rattle.conversions.specs.Laws.Cells.{lists, from_lists, rasters, from_rasters, list_back, raster_back, raster_same}
 use Rattle.lookups.specs.declared.neighbours.Direction.{Direction}
-use Rattle.answers.specs.declared.Counted.{Counted}
-use Rattle.answers.specs.declared.Looked.{Looked}
-use Rattle.answers.specs.declared.Near.{Near}
 
 -- Two results that a call's contract allows are equal. The contracts are the two hypotheses, with the call's definition for a.
-pub one_counted : (a : Answer ℕ) (r s : Counted) → counted r ≡ a → counted s ≡ a → r ≡ s
-one_counted = one.one_counted
+pub one_counted : (a : Answer ℕ) (r s : Result ℕ Refusal) → answered r ≡ a → answered s ≡ a → r ≡ s
+one_counted = one_answer
 
-pub one_looked : (a : Answer ℕ) (r s : Looked) → looked r ≡ a → looked s ≡ a → r ≡ s
-one_looked = one.one_looked
+pub one_looked : (a : Answer ℕ) (r s : Result ℕ Refusal) → answered r ≡ a → answered s ≡ a → r ≡ s
+one_looked = one_answer
 
-pub one_near : (a : Answer ℕ) (r s : Near) → near r ≡ a → near s ≡ a → r ≡ s
-one_near = one.one_near
+pub one_near : (a : Answer ℕ) (r s : Result ℕ Refusal) → answered r ≡ a → answered s ≡ a → r ≡ s
+one_near = one_answer
 
-pub one_placed : (a : Answer Shift) (r s : Placed) → answered r ≡ a → answered s ≡ a → r ≡ s
-one_placed = place.one_placed
+pub one_placed : (a : Answer Shift) (r s : Result Shift Refusal) → answered r ≡ a → answered s ≡ a → r ≡ s
+one_placed = one_answer
 
 -- Each answer is given exactly when it is allowed. Demand 1: a refusal names the right number.
 pub check_exactly : (n : ℕ) (l : List ℕ) (a : Answer ℕ) → (list_check n l ≡ a) ↔ Checks n l a

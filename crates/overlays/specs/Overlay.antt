@@ -2,6 +2,7 @@
 use Rattle.std.specs.Prelude.{List, ℕ, ltb, ℤ, pos, ◌+ℤ◌, ◌-ℤ◌}
 use Rattle.refusal.specs.Rules as rule
 use Rattle.refusal.specs.Answer.{refuse_if}
+use Rattle.refusal.specs.Judged.{refuse_wrong}
 use Rattle.morton.specs.Code.{row_of, column_of}
 use Rattle.tiling.specs.Map.{limit, colour_in}
 use Rattle.tiling.specs.Check.{checked}
@@ -11,7 +12,6 @@ use Rattle.place.specs.Placing.{far}
 use Rattle.place.specs.declared.Shift.{Shift}
 use Rattle.painter.specs.Operation.{combine}
 use Rattle.painter.specs.declared.operations.Operation.{Operation}
-use Rattle.answers.specs.Judged.{refuse_wrong}
 use Rattle.overlays.specs.declared.Window.{Window}
 use Rattle.overlays.specs.declared.Frame.{Frame}
 use Rattle.overlays.specs.declared.Frame.TheVariants.{OfFirst, At}

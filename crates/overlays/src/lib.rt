@@ -4,137 +4,72 @@
 #![tactic(auto)]
 
 ghost use Rattle.std.specs.Prelude.{◌≡◌, ◌≤◌, nat_abs, ◌-ℤ◌, length};
-ghost use Rattle.refusal.specs.Answer.{refuses};
-ghost use Rattle.tiling.specs.Map.{limit};
+ghost use Rattle.refusal.specs.Read.{answered};
 ghost use Rattle.shortest.specs.Shortest.{shortest};
 ghost use Rattle.shortest.specs.Outcome.{Outcome, fitting, written, left};
 ghost use Rattle.probe.specs.Biased.{biased};
 ghost use Rattle.painter.specs.Scene.{picture};
 ghost use Rattle.painter.specs.Painting.{Paints};
-ghost use Rattle.answers.specs.Answers.{counted};
 ghost use Rattle.place.specs.Placing.{farthest_offset};
-ghost use Rattle.overlays.specs.Overlay.{sizes, offsets, lists, judged, window_of, overlaid, windowed};
+ghost use Rattle.overlays.specs.Overlay.{judged, window_of, overlaid, windowed};
 ghost use Rattle.overlays.specs.Scenes.{unless, scene_of};
 ghost use Rattle.overlays.specs.Laws.Checks.{Near};
 
-use answers::Counted;
 use painter::{Operation, Scene};
 use place::Shift;
 use refusal::Refusal;
-use tiling::Checked;
 
 // A window: its first cell in the first map's rows and columns, and its size.
-#[derive(Clone, Copy)]
+#[derive(Clone, Copy, Debug, PartialEq, Eq)]
 pub struct Window {
     pub wy: i64,
     pub wx: i64,
     pub size: u64,
 }
 
-// The window of an overlay: the first map's own square, or one that is named.
-#[derive(Clone, Copy)]
+// The window of an overlay: the first map's own square, or one that is named. In an Option, None would not say whose square is meant.
+#[derive(Clone, Copy, Debug, PartialEq, Eq)]
 pub enum Frame {
     OfFirst,
     At(Window),
 }
 
-// What the checks have found, which are made in order.
-#[derive(Clone, Copy)]
-pub enum Verdict {
-    Fine,
-    Bad(Refusal),
-}
-
-fn bad(rule: u64, number: u64) -> Verdict
-    ensures { (x : Outcome) → unless result x ≡ refuses rule number }
+// All that is refused before anything is painted: the sizes, the offset and the window's origin, and the two lists, in that order.
+fn judge(
+    n: u64,
+    first: &[u64],
+    m: u64,
+    second: &[u64],
+    shift: Shift,
+    window: Window,
+) -> Result<(), Refusal>
+    ensures { (x : Outcome) → unless result x ≡ judged n first.now m second.now shift window x }
 {
-    Verdict::Bad(Refusal { rule, number })
-}
-
-// No. 1: the sizes of the maps and of the window.
-fn judge_sizes(n: u64, m: u64, w: u64) -> Verdict
-    ensures { (x : Outcome) → unless result x ≡ sizes n m w x }
-{
-    if tiling::LIMIT < n {
-        return bad(refusal::SIZE, 0);
-    }
-    if tiling::LIMIT < m {
-        return bad(refusal::SIZE, 1);
-    }
-    if tiling::LIMIT < w {
-        return bad(refusal::SIZE, 2);
-    }
-    Verdict::Fine
-}
-
-// No. 2: the offset and the window's origin.
-fn judge_offsets(dy: i64, dx: i64, wy: i64, wx: i64) -> Verdict
-    ensures { (x : Outcome) → unless result x ≡ offsets dy dx wy wx x }
-{
-    if place::far(dy) {
-        return bad(refusal::OFFSET, 0);
-    }
-    if place::far(dx) {
-        return bad(refusal::OFFSET, 1);
-    }
-    if place::far(wy) {
-        return bad(refusal::OFFSET, 2);
-    }
-    if place::far(wx) {
-        return bad(refusal::OFFSET, 3);
-    }
-    Verdict::Fine
-}
-
-// No. 3 and No. 4: the two lists.
-fn judge_lists(n: u64, first: &[u64], m: u64, second: &[u64]) -> Verdict
-    requires { (n ≤ limit) × (m ≤ limit) }
-    ensures { (x : Outcome) → unless result x ≡ lists n first.now m second.now x }
-{
-    let found = tiling::check(n, first);
-    if let Checked::Wrong(i) = found {
-        return bad(refusal::FIRST_LIST, i as u64);
-    }
-    let found = tiling::check(m, second);
-    if let Checked::Wrong(i) = found {
-        return bad(refusal::SECOND_LIST, i as u64);
-    }
-    Verdict::Fine
+    tiling::sized(n, 0)?;
+    tiling::sized(m, 1)?;
+    tiling::sized(window.size, 2)?;
+    place::near(shift.dy, 0)?;
+    place::near(shift.dx, 1)?;
+    place::near(window.wy, 2)?;
+    place::near(window.wx, 3)?;
+    tiling::check(n, first).map_err(|i| Refusal::FirstList(i as u64))?;
+    tiling::check(m, second).map_err(|i| Refusal::SecondList(i as u64))
 }
 
 // The common ending: the shortest list of a scene, or the refusal that there is no room for it. Where 4 ^ w words or more are lent
 // every list fits, and none is counted first.
-fn painted(s: Scene, first: &[u64], second: &[u64], w: u64, out: &mut [u64]) -> Counted
+fn painted(s: Scene, first: &[u64], second: &[u64], w: u64, out: &mut [u64]) -> Result<u64, Refusal>
     requires { Paints s first.now second.now w }
-    ensures answered { counted result ≡ written (fitting (shortest (picture s first.now second.now) w 0) (length out.old)) }
+    ensures answered { answered result ≡ written (fitting (shortest (picture s first.now second.now) w 0) (length out.old)) }
     ensures left { out.new ≡ left (fitting (shortest (picture s first.now second.now) w 0) (length out.old)) out.old }
 {
-    if morton::area(w) <= out.len() as u64 {
-        return Counted::Count(painter::write(s, first, second, w, out));
+    if (out.len() as u64) < morton::area(w) {
+        let leaves = painter::leaves(s, first, second, w);
+        if (out.len() as u64) < leaves {
+            return Err(Refusal::NoRoom(leaves));
+        }
     }
-    let leaves = painter::leaves(s, first, second, w);
-    if (out.len() as u64) < leaves {
-        return Counted::Refused(Refusal {
-            rule: refusal::NO_ROOM,
-            number: leaves,
-        });
-    }
-    Counted::Count(painter::write(s, first, second, w, out))
-}
-
-// All that is refused before anything is painted.
-fn judge(n: u64, first: &[u64], m: u64, second: &[u64], shift: Shift, window: Window) -> Verdict
-    ensures { (x : Outcome) → unless result x ≡ judged n first.now m second.now shift window x }
-{
-    let size = judge_sizes(n, m, window.size);
-    if let Verdict::Bad(_) = size {
-        return size;
-    }
-    let offset = judge_offsets(shift.dy, shift.dx, window.wy, window.wx);
-    if let Verdict::Bad(_) = offset {
-        return offset;
-    }
-    judge_lists(n, first, m, second)
+    Ok(painter::write(s, first, second, w, out))
 }
 
 // The row or the column of the window's first cell in the second map, biased.
@@ -146,6 +81,7 @@ fn origin(w: i64, d: i64) -> u64
 }
 
 // Two maps under an operation, and where the window's first cell lies in each.
+#[tactic(auto, using(crate::specs::Laws::Scenes::near_back))]
 fn scene(operation: Operation, n: u64, m: u64, shift: Shift, window: Window) -> Scene
     requires { Near shift.dy shift.dx window.wy window.wx }
     ensures { result ≡ scene_of operation n m shift window }
@@ -184,22 +120,20 @@ pub fn overlay(
     shift: Shift,
     frame: Frame,
     out: &mut [u64],
-) -> Counted
-    ensures answered { counted result ≡ written (overlaid operation n first.now m second.now shift frame (length out.old)) }
+) -> Result<u64, Refusal>
+    ensures answered { answered result ≡ written (overlaid operation n first.now m second.now shift frame (length out.old)) }
     ensures left { out.new ≡ left (overlaid operation n first.now m second.now shift frame (length out.old)) out.old }
 {
     let window = framed(n, frame);
-    let verdict = judge(n, first, m, second, shift, window);
-    if let Verdict::Bad(r) = verdict {
-        return Counted::Refused(r);
-    }
+    judge(n, first, m, second, shift, window)?;
     let s = scene(operation, n, m, shift, window);
     painted(s, first, second, window.size, out)
 }
 
 // Writes the shortest list of a window of one map, and counts its leaves. It is the union with a map of one WHITE cell.
-pub fn window_of(n: u64, list: &[u64], window: Window, out: &mut [u64]) -> Counted
-    ensures answered { counted result ≡ written (windowed n list.now window (length out.old)) }
+#[tactic(auto, using(crate::specs::Laws::Windows::as_union))]
+pub fn window_of(n: u64, list: &[u64], window: Window, out: &mut [u64]) -> Result<u64, Refusal>
+    ensures answered { answered result ≡ written (windowed n list.now window (length out.old)) }
     ensures left { out.new ≡ left (windowed n list.now window (length out.old)) out.old }
 {
     let blank = [0u64];

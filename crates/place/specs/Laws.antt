@@ -3,4 +3,3 @@ pub mod Integers
 pub mod Readings
 pub mod Meaning
 pub mod Exactly
-pub mod OneAnswer

@@ -1,4 +1,3 @@
-pub mod Answer
 pub mod Placing
 pub mod Allowed
 pub mod Cases

@@ -1,4 +1,5 @@
 pub mod Rules
 pub mod Answer
+pub mod Judged
 pub mod Read
 pub mod Laws

@@ -4,7 +4,7 @@
 // refusal is read as the paper's No. and number, in specs/Read.antt.
 #![tactic(auto)]
 
-ghost use Rattle.std.specs.Prelude.{◌≡◌};
+ghost use Rattle.std.specs.Prelude.{◌≡◌, ◌≤◌};
 
 use std::error::Error;
 use std::fmt;
@@ -31,7 +31,8 @@ impl Refusal {
 
     // The paper's No.
     pub fn rule(self) -> u64
-        ensures { result ≡ rule_of self }
+        ensures is { result ≡ rule_of self }
+        ensures most { result ≤ 12 }
     {
         match self {
             Refusal::Size(_) => 1,

@@ -4,21 +4,32 @@
 // specs/WellFormed.antt and specs/Check.antt, and what colour a map has at a cell in specs/Map.antt.
 #![tactic(auto)]
 
-ghost use Rattle.std.specs.Prelude.{◌≡◌, true, ◌<◌, ◌≤◌, ◌^◌, nat_abs};
+ghost use Rattle.std.specs.Prelude.{◌≡◌, true, ◌<◌, ◌≤◌, ◌^◌, cond, ltb, nat_abs};
 ghost use Rattle.morton.specs.Code.{code};
 ghost use Rattle.morton.specs.Power.{highest};
 ghost use Rattle.tiling.specs.Leaf.{leaf, code_of, level_of, colour_of, end_of};
-ghost use Rattle.tiling.specs.Map.{within, inside};
+ghost use Rattle.tiling.specs.Map.{limit, within, inside};
 ghost use Rattle.tiling.specs.IsMap.{IsMap};
 ghost use Rattle.tiling.specs.Check.{right_end, checked};
 
 use morton::Spread;
+use refusal::Refusal;
 
 // The largest size of a map.
 pub const LIMIT: u64 = 12;
 
 // Colours are below this.
 pub const COLOURS: u64 = 256;
+
+// A size above the limit is refused, with its number.
+pub fn sized(n: u64, number: u64) -> Result<(), Refusal>
+    ensures { result ≡ cond (ltb limit n) (Err (Refusal.Size number)) (Ok tt) }
+{
+    if LIMIT < n {
+        return Err(Refusal::Size(number));
+    }
+    Ok(())
+}
 
 // The word of a leaf.
 pub fn leaf(code: u64, level: u64, colour: u8) -> u64

@@ -2,25 +2,19 @@
 // what the paper says that they answer.
 #![tactic(auto)]
 
-use oboeridge::{Cell, Counted, Direction, Looked, Near};
+use oboeridge::{Cell, Direction};
 use std::io;
 
 fn check(rt: &impl Print, what: &[u8], n: u64, list: &[u64]) -> io::Result<()> {
     lines::say(rt, b"list check, ")?;
     lines::say(rt, what)?;
-    match oboeridge::check(n, list) {
-        Counted::Count(k) => lines::given(rt, k),
-        Counted::Refused(r) => lines::refused(rt, r),
-    }
+    lines::answer(rt, oboeridge::check(n, list))
 }
 
 fn lookup(rt: &impl Print, what: &[u8], n: u64, list: &[u64], cell: Cell) -> io::Result<()> {
     lines::say(rt, b"lookup, ")?;
     lines::say(rt, what)?;
-    match oboeridge::lookup(n, list, cell) {
-        Looked::Colour(c) => lines::given(rt, c as u64),
-        Looked::Refused(r) => lines::refused(rt, r),
-    }
+    lines::answer(rt, oboeridge::lookup(n, list, cell).map(u64::from))
 }
 
 fn neighbour(
@@ -33,10 +27,7 @@ fn neighbour(
 ) -> io::Result<()> {
     lines::say(rt, b"neighbour, ")?;
     lines::say(rt, what)?;
-    match oboeridge::neighbour(n, code, level, direction) {
-        Near::Code(k) => lines::given(rt, k),
-        Near::Refused(r) => lines::refused(rt, r),
-    }
+    lines::answer(rt, oboeridge::neighbour(n, code, level, direction))
 }
 
 // The list of a raster, and what is then left in the space lent, which held nines.
@@ -49,10 +40,7 @@ fn to_list<'a>(
 ) -> io::Result<()> {
     lines::say(rt, b"raster to list, ")?;
     lines::say(rt, what)?;
-    match oboeridge::to_list(n, cells, lent) {
-        Counted::Count(k) => lines::given(rt, k)?,
-        Counted::Refused(r) => lines::refused(rt, r)?,
-    }
+    lines::answer(rt, oboeridge::to_list(n, cells, lent))?;
     lines::say(rt, b"  left:")?;
     lines::words(rt, lent)
 }
@@ -61,10 +49,7 @@ fn to_raster<'a>(rt: &impl Print, what: &'a [u8], n: u64, list: &'a [u64]) -> io
     lines::say(rt, b"list to raster, ")?;
     lines::say(rt, what)?;
     let mut cells = [9u8; 16];
-    match oboeridge::to_raster(n, list, &mut cells) {
-        Counted::Count(k) => lines::given(rt, k),
-        Counted::Refused(r) => lines::refused(rt, r),
-    }
+    lines::answer(rt, oboeridge::to_raster(n, list, &mut cells))
 }
 
 fn lists(rt: &impl Print) -> io::Result<()> {

@@ -1,15 +1,8 @@
 // The worked cases of overlay and window, run. The file `stdout` beside this folder holds what the paper says that they answer.
 #![tactic(auto)]
 
-use oboeridge::{Counted, Frame, Operation, Shift, Window};
+use oboeridge::{Frame, Operation, Shift, Window};
 use std::io;
-
-fn answer(rt: &impl Print, r: Counted) -> io::Result<()> {
-    match r {
-        Counted::Count(k) => lines::given(rt, k),
-        Counted::Refused(r) => lines::refused(rt, r),
-    }
-}
 
 // The black leaf S on the picture P, and what is then left in the space lent, which held nines.
 fn on_p(
@@ -23,7 +16,7 @@ fn on_p(
     lines::say(rt, what)?;
     let p = [257u64, 262144, 327680, 393216, 458753, 524544, 786689];
     let s = [257u64];
-    answer(
+    lines::answer(
         rt,
         oboeridge::overlay(operation, 2, &p, 1, &s, shift, Frame::OfFirst, lent),
     )?;
@@ -35,7 +28,7 @@ fn window(rt: &impl Print, what: &[u8], window: Window, lent: &mut [u64]) -> io:
     lines::say(rt, b"window of P, ")?;
     lines::say(rt, what)?;
     let p = [257u64, 262144, 327680, 393216, 458753, 524544, 786689];
-    answer(rt, oboeridge::window_of(2, &p, window, lent))?;
+    lines::answer(rt, oboeridge::window_of(2, &p, window, lent))?;
     lines::say(rt, b"  left:")?;
     lines::words(rt, lent)
 }
@@ -130,7 +123,7 @@ fn laid<'a>(
     lines::say(rt, what)?;
     let first = [0u64, 65536, 131074, 196610];
     let mut lent = [9u64; 4];
-    answer(
+    lines::answer(
         rt,
         oboeridge::overlay(
             operation,

@@ -1,7 +1,7 @@
 // The worked cases of placing, run. The file `stdout` beside this folder holds what the paper says that they answer.
 #![tactic(auto)]
 
-use oboeridge::{Ground, Place, Placed, Shift};
+use oboeridge::{Ground, Place, Shift};
 use std::io;
 
 fn shifted(rt: &impl Print, s: Shift) -> io::Result<()> {
@@ -16,8 +16,8 @@ fn placing(rt: &impl Print, what: &[u8], p: Place) -> io::Result<()> {
     lines::say(rt, b"placing, ")?;
     lines::say(rt, what)?;
     match oboeridge::placing(p) {
-        Placed::At(s) => shifted(rt, s),
-        Placed::Refused(r) => lines::refused(rt, r),
+        Ok(s) => shifted(rt, s),
+        Err(r) => lines::refused(rt, r),
     }
 }
 

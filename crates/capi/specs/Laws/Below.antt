@@ -1,10 +1,11 @@
 -- Every answer of every call is below 2 ^ 32, so that one number has room for it and can be read back.
-use Rattle.std.specs.Prelude.{◌≡◌, refl, Bool, true, false, not, List, ℕ, zero, suc, ◌+◌, ◌*◌, ◌^◌, ◌<◌, ◌≤◌, ltb, eqb, ℤ, nat_abs, length, get_or}
+use Rattle.std.specs.Prelude.{◌≡◌, refl, Bool, true, false, not, List, ℕ, zero, suc, ◌+◌, ◌*◌, ◌^◌, ◌<◌, ◌≤◌, ltb, eqb, ℤ, nat_abs, length, get_or, Result, Ok, Err}
 use Rattle.std.proofs.Common.{ap₂, arith, ltb-false, lt-ltb, le-ltb}
 use Rattle.std.proofs.Math.Nat.{pow-le-pow_right, one-le-pow}
 use Rattle.std.proofs.lemmas.Bool.{not-false}
 use Rattle.refusal.specs.Rules as rule
 use Rattle.refusal.specs.Answer.{Answer, gives, refuses, refuse_if}
+use Rattle.refusal.specs.Judged.{refuse_wrong}
 use Rattle.morton.specs.Code.{code}
 use Rattle.morton.specs.Laws.Code.{code_lt}
 use Rattle.tiling.specs.Leaf.{level_of}
@@ -13,15 +14,12 @@ use Rattle.tiling.specs.Map.{limit, inside, colour_in}
 use Rattle.tiling.specs.Laws.Check.{tiles_formed}
 use Rattle.tiling.specs.Laws.Colour.{colour_inside, colour_lt}
 use Rattle.tiling.specs.Check.{checked}
-use Rattle.tiling.specs.declared.Checked.{Checked}
-use Rattle.tiling.specs.declared.Checked.TheVariants.{Tiles, Wrong}
 use Rattle.tiling.proofs.FirstWrong.{wrong_first}
 use Rattle.shortest.specs.Shortest.{shortest}
 use Rattle.shortest.specs.Outcome.{Outcome, fitting, written}
 use Rattle.shortest.specs.Laws.Part.{shortest-size}
 use Rattle.rasters.specs.Raster.{pixel}
 use Rattle.rasters.specs.Laws.Places.{raster_length_lem}
-use Rattle.answers.specs.Judged.{refuse_wrong}
 use Rattle.lookups.specs.Lists.{list_check, cell_lookup}
 use Rattle.lookups.specs.Neighbour.{is_block, row_away, column_away, neighbour}
 use Rattle.lookups.specs.declared.neighbours.Direction.{Direction}
@@ -73,9 +71,9 @@ below_wrong : {A : Type 0} (f : A → ℕ) (n : ℕ) (l : List ℕ) (r : ℕ) (x
     → Below f (refuse_wrong r (checked n l) x)
 below_wrong f n l r x z p h s = go (checked n l) refl
   where
-    go : (c : Checked) → checked n l ≡ c → Below f (refuse_wrong r c x)
-    go Tiles e = s (tiles_formed n l e)
-    go (Wrong i) e = (z, p, position n l i h (wrong_first n l i e))
+    go : (c : Result (Unit {0}) ℕ) → checked n l ≡ c → Below f (refuse_wrong r c x)
+    go (Ok u) e = s (tiles_formed n l e)
+    go (Err i) e = (z, p, position n l i h (wrong_first n l i e))
 
 below-fitting : (f : ℕ → ℕ) (n space : ℕ) → n ≤ limit → Below length (fitting (shortest f n 0) space)
 below-fitting f n space h =
@@ -189,3 +187,6 @@ read_back (refuses r k) h =
     let big : 2 ^ 32 ≤ r * 2 ^ 32 + k = omega (arith, h.0) in
     rw (le-ltb (r * 2 ^ 32 + k) (2 ^ 32) big)
     (ap₂ refuses (omega (arith, h.2)) (omega (arith, h.2)))
+
+-- every answer has room
+pub ruleset room = (check_below, lookup_below, neighbour-below, below-written, list_below, raster_below, window_below, overlay_below, place_below)

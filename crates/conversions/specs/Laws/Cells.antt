@@ -1,5 +1,5 @@
 -- Raster to list and back: what comes of each call is what is allowed, and the two undo one another.
-use Rattle.std.specs.Prelude.{◌≡◌, refl, List, ◌↔◌, ℕ, ◌+◌, ◌*◌, ◌/◌, ◌%◌, ◌^◌, ◌<◌, ◌≤◌, pos, length, get_or}
+use Rattle.std.specs.Prelude.{◌≡◌, refl, List, ◌↔◌, ℕ, ◌+◌, ◌*◌, ◌/◌, ◌%◌, ◌^◌, ◌<◌, ◌≤◌, pos, length, get_or, Result, Ok, Err}
 use Rattle.std.proofs.Common.{sym, ap, ◌∙◌, subst, div-add-mod', arith, lt-ltb}
 use Rattle.std.proofs.Math.Decide.{dec_le, ℕ_discrete}
 use Rattle.std.proofs.Math.Arith.{digits_div, digits_mod}
@@ -10,8 +10,6 @@ use Rattle.tiling.specs.Leaf.{colours}
 use Rattle.tiling.specs.Map.{limit, colour_at, colour_in, within}
 use Rattle.tiling.specs.Check.{checked}
 use Rattle.tiling.specs.WellFormed.{WellFormed}
-use Rattle.tiling.specs.declared.Checked.{Checked}
-use Rattle.tiling.specs.declared.Checked.TheVariants.{Tiles, Wrong}
 use Rattle.tiling.specs.Laws.Tests.{both_and}
 use Rattle.tiling.specs.Laws.Check.{tiles_formed, formed_tiles}
 use Rattle.tiling.specs.Laws.Colour.{colour_inside, colour_lt}
@@ -84,9 +82,9 @@ module _ (n : ℕ) (l : List ℕ) (space : ℕ) where
   pub rasters : Rasters n l space (list_to_raster n l space)
   rasters = go (dec_le n limit)
     where
-      tiled : n ≤ limit → space ≡ 4 ^ n → (c : Checked) → checked n l ≡ c → Rasters n l space (list_to_raster n l space)
-      tiled h e (Wrong i) c = rw (raster_wrong n l space h e i c) (Rasters.list h e (wrong_first n l i c))
-      tiled h e Tiles c =
+      tiled : n ≤ limit → space ≡ 4 ^ n → (c : Result (Unit {0}) ℕ) → checked n l ≡ c → Rasters n l space (list_to_raster n l space)
+      tiled h e (Err i) c = rw (raster_wrong n l space h e i c) (Rasters.list h e (wrong_first n l i c))
+      tiled h e (Ok u) c =
           rw (raster_gives n l space h e c) (Rasters.right h e (tiles_formed n l c) (raster_length_lem n l) (raster_cell n l h))
 
       long : n ≤ limit → Dec (space ≡ 4 ^ n) → Rasters n l space (list_to_raster n l space)

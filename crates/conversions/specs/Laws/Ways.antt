@@ -1,11 +1,10 @@
 -- What each call answers, by what was found on the way to the answer.
-use Rattle.std.specs.Prelude.{◌≡◌, List, ℕ, ◌^◌, ◌<◌, ◌≤◌, length}
+use Rattle.std.specs.Prelude.{◌≡◌, List, ℕ, ◌^◌, ◌<◌, ◌≤◌, length, Ok, Err}
 use borrow.Author.Tests.{lt-ltb, le-ltb, eq-eqb, ne_eqb}
 use Rattle.refusal.specs.Rules as rule
 use Rattle.refusal.specs.Answer.{gives, refuses}
 use Rattle.tiling.specs.Map.{limit}
 use Rattle.tiling.specs.Check.{checked}
-use Rattle.tiling.specs.declared.Checked.TheVariants.{Tiles, Wrong}
 use Rattle.shortest.specs.Shortest.{shortest}
 use Rattle.shortest.specs.Outcome.{fitting}
 use Rattle.rasters.specs.Raster.{pixel, raster_of}
@@ -36,10 +35,10 @@ module _ (n : ℕ) (l : List ℕ) (space : ℕ) where
     raster_wrong_length h = rw (le-ltb limit n hn, ne_eqb space (4 ^ n) h)
 
     module _ (h : space ≡ 4 ^ n) where
-      pub raster_wrong : (i : ℕ) → checked n l ≡ Wrong i → list_to_raster n l space ≡ refuses rule.first_list i
+      pub raster_wrong : (i : ℕ) → checked n l ≡ Err i → list_to_raster n l space ≡ refuses rule.first_list i
       unfolding list_to_raster
       raster_wrong i e = rw (le-ltb limit n hn, eq-eqb space (4 ^ n) h, e)
 
-      pub raster_gives : checked n l ≡ Tiles → list_to_raster n l space ≡ gives (raster_of n l)
+      pub raster_gives : checked n l ≡ Ok tt → list_to_raster n l space ≡ gives (raster_of n l)
       unfolding list_to_raster
       raster_gives e = rw (le-ltb limit n hn, eq-eqb space (4 ^ n) h, e)

@@ -1,11 +1,9 @@
 -- Each call's answer is one that is allowed, and an answer that is allowed is the call's.
-use Rattle.std.specs.Prelude.{◌≡◌, refl, Bool, true, false, List, ℕ, ltb, ℤ}
+use Rattle.std.specs.Prelude.{◌≡◌, refl, Bool, true, false, List, ℕ, ltb, ℤ, Result, Ok, Err}
 use Rattle.std.proofs.Common.{sym, ap, ◌∙◌, ltb-true, ltb-false}
 use Rattle.refusal.specs.Answer.{Answer, gives}
 use Rattle.tiling.specs.Map.{limit, inside}
 use Rattle.tiling.specs.Check.{checked}
-use Rattle.tiling.specs.declared.Checked.{Checked}
-use Rattle.tiling.specs.declared.Checked.TheVariants.{Tiles, Wrong}
 use Rattle.tiling.specs.Laws.Check.{tiles_formed, formed_tiles}
 use Rattle.tiling.proofs.FirstWrong.{wrong_first, first_wrong}
 use Rattle.lookups.specs.Lists.{list_check, cell_lookup}
@@ -19,10 +17,10 @@ module _ (n : ℕ) (l : List ℕ) where
   pub checks : Checks n l (list_check n l)
   checks = go (ltb limit n) refl (checked n l) refl
     where
-      go : (b : Bool) → ltb limit n ≡ b → (c : Checked) → checked n l ≡ c → Checks n l (list_check n l)
+      go : (b : Bool) → ltb limit n ≡ b → (c : Result (Unit {0}) ℕ) → checked n l ≡ c → Checks n l (list_check n l)
       go true p c e = rw (← check_size n l (ltb-true _ _ p)) (Checks.size (ltb-true _ _ p))
-      go false p Tiles e = rw (← check_gives n l (ltb-false _ _ p) e) (Checks.right (ltb-false _ _ p) (tiles_formed n l e))
-      go false p (Wrong i) e = rw (← check_wrong n l (ltb-false _ _ p) i e) (Checks.list (ltb-false _ _ p) (wrong_first n l i e))
+      go false p (Ok u) e = rw (← check_gives n l (ltb-false _ _ p) e) (Checks.right (ltb-false _ _ p) (tiles_formed n l e))
+      go false p (Err i) e = rw (← check_wrong n l (ltb-false _ _ p) i e) (Checks.list (ltb-false _ _ p) (wrong_first n l i e))
 
   pub from_checks : (a : Answer ℕ) → Checks n l a → list_check n l ≡ a
   from_checks a (Checks.size h) = sym (check_size n l h)
@@ -33,12 +31,12 @@ module _ (n : ℕ) (l : List ℕ) (row column : ℤ) where
   pub looks_up : Looks n l row column (cell_lookup n l row column)
   looks_up = go (ltb limit n) refl (checked n l) refl (inside n row column) refl
     where
-      go : (b : Bool) → ltb limit n ≡ b → (c : Checked) → checked n l ≡ c → (t : Bool) → inside n row column ≡ t
+      go : (b : Bool) → ltb limit n ≡ b → (c : Result (Unit {0}) ℕ) → checked n l ≡ c → (t : Bool) → inside n row column ≡ t
           → Looks n l row column (cell_lookup n l row column)
       go true p c e t q = rw (← lookup_size n l row column (ltb-true _ _ p)) (Looks.size (ltb-true _ _ p))
-      go false p (Wrong i) e t q = rw (← lookup_wrong n l row column (ltb-false _ _ p) i e) (Looks.list (ltb-false _ _ p) (wrong_first n l i e))
-      go false p Tiles e true q = rw (← lookup_gives n l row column (ltb-false _ _ p) e q) (Looks.right (ltb-false _ _ p) (tiles_formed n l e) q)
-      go false p Tiles e false q = rw (← lookup_outside n l row column (ltb-false _ _ p) e q) (Looks.outside (ltb-false _ _ p) (tiles_formed n l e) q)
+      go false p (Err i) e t q = rw (← lookup_wrong n l row column (ltb-false _ _ p) i e) (Looks.list (ltb-false _ _ p) (wrong_first n l i e))
+      go false p (Ok u) e true q = rw (← lookup_gives n l row column (ltb-false _ _ p) e q) (Looks.right (ltb-false _ _ p) (tiles_formed n l e) q)
+      go false p (Ok u) e false q = rw (← lookup_outside n l row column (ltb-false _ _ p) e q) (Looks.outside (ltb-false _ _ p) (tiles_formed n l e) q)
 
   pub from_looks : (a : Answer ℕ) → Looks n l row column a → cell_lookup n l row column ≡ a
   from_looks a (Looks.size h) = sym (lookup_size n l row column h)

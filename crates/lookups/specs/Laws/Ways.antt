@@ -1,12 +1,11 @@
 -- What each call answers, by what was found on the way to the answer.
-use Rattle.std.specs.Prelude.{◌≡◌, true, false, List, ℕ, ◌<◌, ◌≤◌, ℤ, nat_abs, length}
+use Rattle.std.specs.Prelude.{◌≡◌, true, false, List, ℕ, ◌<◌, ◌≤◌, ℤ, nat_abs, length, Ok, Err}
 use Rattle.std.proofs.Common.{lt-ltb, le-ltb}
 use Rattle.refusal.specs.Rules as rule
 use Rattle.refusal.specs.Answer.{gives, refuses}
 use Rattle.morton.specs.Code.{code}
 use Rattle.tiling.specs.Map.{limit, inside, colour_in}
 use Rattle.tiling.specs.Check.{checked}
-use Rattle.tiling.specs.declared.Checked.TheVariants.{Tiles, Wrong}
 use Rattle.lookups.specs.Lists.{list_check, cell_lookup}
 use Rattle.lookups.specs.Neighbour.{is_block, row_away, column_away, neighbour}
 use Rattle.lookups.specs.declared.neighbours.Direction.{Direction}
@@ -17,11 +16,11 @@ module _ (n : ℕ) (l : List ℕ) where
   check_size h = rw (lt-ltb limit n h)
 
   module _ (hn : n ≤ limit) where
-    pub check_wrong : (i : ℕ) → checked n l ≡ Wrong i → refuses rule.first_list i ≡ list_check n l
+    pub check_wrong : (i : ℕ) → checked n l ≡ Err i → refuses rule.first_list i ≡ list_check n l
     unfolding list_check
     check_wrong i e = rw (le-ltb limit n hn, e)
 
-    pub check_gives : checked n l ≡ Tiles → gives (length l) ≡ list_check n l
+    pub check_gives : checked n l ≡ Ok tt → gives (length l) ≡ list_check n l
     unfolding list_check
     check_gives e = rw (le-ltb limit n hn, e)
 
@@ -31,15 +30,15 @@ module _ (n : ℕ) (l : List ℕ) (row column : ℤ) where
   lookup_size h = rw (lt-ltb limit n h)
 
   module _ (hn : n ≤ limit) where
-    pub lookup_wrong : (i : ℕ) → checked n l ≡ Wrong i → refuses rule.first_list i ≡ cell_lookup n l row column
+    pub lookup_wrong : (i : ℕ) → checked n l ≡ Err i → refuses rule.first_list i ≡ cell_lookup n l row column
     unfolding cell_lookup
     lookup_wrong i e = rw (le-ltb limit n hn, e)
 
-    pub lookup_outside : checked n l ≡ Tiles → inside n row column ≡ false → refuses rule.outside 0 ≡ cell_lookup n l row column
+    pub lookup_outside : checked n l ≡ Ok tt → inside n row column ≡ false → refuses rule.outside 0 ≡ cell_lookup n l row column
     unfolding cell_lookup
     lookup_outside e h = rw (le-ltb limit n hn, e, h)
 
-    pub lookup_gives : checked n l ≡ Tiles → inside n row column ≡ true → gives (colour_in n l row column) ≡ cell_lookup n l row column
+    pub lookup_gives : checked n l ≡ Ok tt → inside n row column ≡ true → gives (colour_in n l row column) ≡ cell_lookup n l row column
     unfolding cell_lookup
     lookup_gives e h = rw (le-ltb limit n hn, e, h)
 

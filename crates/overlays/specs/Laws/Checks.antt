@@ -1,22 +1,18 @@
 -- The checks of an overlay, one after another: which refusal they come to, and that they let pass what is right.
-use Rattle.std.specs.Prelude.{◌≡◌, refl, Bool, true, false, List, [], ℕ, ◌<◌, ◌≤◌, ltb, ℤ, nat_abs}
+use Rattle.std.specs.Prelude.{◌≡◌, refl, Bool, true, false, List, [], ℕ, ◌<◌, ◌≤◌, ltb, ℤ, nat_abs, Result, Ok, Err}
 use Rattle.std.proofs.Common.{arith, lt-ltb, le-ltb, ltb-false}
 use Rattle.refusal.specs.Rules as rule
 use Rattle.refusal.specs.Answer.{gives, refuses, refuse_if}
+use Rattle.refusal.specs.Judged.{refuse_wrong}
 use Rattle.refusal.specs.declared.Refusal.{Refusal}
 use Rattle.tiling.specs.Map.{limit}
 use Rattle.tiling.specs.Check.{checked}
-use Rattle.tiling.specs.declared.Checked.{Checked}
-use Rattle.tiling.specs.declared.Checked.TheVariants.{Tiles, Wrong}
 use Rattle.shortest.specs.Outcome.{Outcome}
 use Rattle.place.specs.Placing.{far, farthest_offset}
-use Rattle.answers.specs.Judged.{refuse_wrong}
 use Rattle.place.specs.declared.Shift.{Shift}
 use Rattle.overlays.specs.Overlay.{sizes, offsets, lists, judged}
 use Rattle.overlays.specs.Scenes.{unless}
 use Rattle.overlays.specs.declared.Window.{Window}
-use Rattle.overlays.specs.declared.Verdict.{Verdict}
-use Rattle.overlays.specs.declared.Verdict.TheVariants.{Fine, Bad}
 
 module _ (n m w : ℕ) (x : Outcome) where
   pub size-first : limit < n → refuses rule.size 0 ≡ sizes n m w x
@@ -48,13 +44,13 @@ module _ (dy dx wy wx : ℤ) (x : Outcome) where
   offsets_fine a b d h = rw (a, b, d, h)
 
 module _ (n : ℕ) (a : List ℕ) (m : ℕ) (b : List ℕ) (x : Outcome) where
-  pub first_wrong : (i : ℕ) → checked n a ≡ Wrong i → refuses rule.first_list i ≡ lists n a m b x
+  pub first_wrong : (i : ℕ) → checked n a ≡ Err i → refuses rule.first_list i ≡ lists n a m b x
   first_wrong i e = rw e
 
-  pub second_wrong : (i : ℕ) → checked n a ≡ Tiles → checked m b ≡ Wrong i → refuses rule.second_list i ≡ lists n a m b x
+  pub second_wrong : (i : ℕ) → checked n a ≡ Ok tt → checked m b ≡ Err i → refuses rule.second_list i ≡ lists n a m b x
   second_wrong i e f = rw (e, f)
 
-  pub lists_fine : checked n a ≡ Tiles → checked m b ≡ Tiles → x ≡ lists n a m b x
+  pub lists_fine : checked n a ≡ Ok tt → checked m b ≡ Ok tt → x ≡ lists n a m b x
   lists_fine e f = rw (e, f)
 
 -- ---- what is known if the checks let everything pass
@@ -89,14 +85,14 @@ offsets_pass dy dx wy wx y h = go (far dy) refl (far dx) refl (far wy) refl (far
     go false e false f false g false k z =
         (record { dy_near = ltb-false _ _ e; dx_near = ltb-false _ _ f; wy_near = ltb-false _ _ g; wx_near = ltb-false _ _ k }, z)
 
-pub lists_pass : (n : ℕ) (a : List ℕ) (m : ℕ) (b : List ℕ) (y : Outcome) → gives [] ≡ lists n a m b y → (checked n a ≡ Tiles) × (checked m b ≡ Tiles)
+pub lists_pass : (n : ℕ) (a : List ℕ) (m : ℕ) (b : List ℕ) (y : Outcome) → gives [] ≡ lists n a m b y → (checked n a ≡ Ok tt) × (checked m b ≡ Ok tt)
 lists_pass n a m b y h = go (checked n a) refl (checked m b) refl h
   where
-    go : (p : Checked) → checked n a ≡ p → (q : Checked) → checked m b ≡ q
-        → gives [] ≡ refuse_wrong rule.first_list p (refuse_wrong rule.second_list q y) → (checked n a ≡ Tiles) × (checked m b ≡ Tiles)
-    go (Wrong i) e q f z = stopped rule.first_list i z
-    go Tiles e (Wrong i) f z = stopped rule.second_list i z
-    go Tiles e Tiles f z = (e, f)
+    go : (p : Result (Unit {0}) ℕ) → checked n a ≡ p → (q : Result (Unit {0}) ℕ) → checked m b ≡ q
+        → gives [] ≡ refuse_wrong rule.first_list p (refuse_wrong rule.second_list q y) → (checked n a ≡ Ok tt) × (checked m b ≡ Ok tt)
+    go (Err i) e q f z = stopped rule.first_list i z
+    go (Ok u) e (Err i) f z = stopped rule.second_list i z
+    go (Ok u) e (Ok v) f z = (e, f)
 
 -- all that is right if nothing is refused
 pub record Right (n : ℕ) (a : List ℕ) (m : ℕ) (b : List ℕ) (s : Shift) (w : Window) : Type 0 where
@@ -104,8 +100,8 @@ pub record Right (n : ℕ) (a : List ℕ) (m : ℕ) (b : List ℕ) (s : Shift) (
   pub second-size : m ≤ limit
   pub window_size : w.size ≤ limit
   pub near : Near s.dy s.dx w.wy w.wx
-  pub first_tiles : checked n a ≡ Tiles
-  pub second_tiles : checked m b ≡ Tiles
+  pub first_tiles : checked n a ≡ Ok tt
+  pub second_tiles : checked m b ≡ Ok tt
 
 pub judged_right : (n : ℕ) (a : List ℕ) (m : ℕ) (b : List ℕ) (s : Shift) (w : Window) → gives [] ≡ judged n a m b s w (gives []) → Right n a m b s w
 judged_right n a m b s w h =
@@ -114,9 +110,6 @@ judged_right n a m b s w h =
     let r = lists_pass n a m b (gives []) q.1 in
     record { first-size = p.0; second-size = p.1; window_size = p.2; near = q.0; first_tiles = r.0; second_tiles = r.1 }
 
--- what is bad is bad whatever comes after
-pub bad_any : (v : Verdict) (r : Refusal) → v ≡ Bad r → (x y : Outcome) → unless v x ≡ unless v y
-bad_any v r e x y = rw e
-
-pub fine_passes : (v : Verdict) → v ≡ Fine → (x : Outcome) → unless v x ≡ x
+-- what nothing refuses passes
+pub fine_passes : (v : Result (Unit {0}) Refusal) → v ≡ Ok tt → (x : Outcome) → unless v x ≡ x
 fine_passes v e x = rw e

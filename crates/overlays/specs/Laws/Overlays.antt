@@ -1,5 +1,5 @@
 -- Overlay and window answer what is allowed, and nothing else.
-use Rattle.std.specs.Prelude.{◌≡◌, refl, Bool, true, false, List, ℕ, ◌^◌, ◌<◌, ◌≤◌, ltb, pos, length}
+use Rattle.std.specs.Prelude.{◌≡◌, refl, Bool, true, false, List, ℕ, ◌^◌, ◌<◌, ◌≤◌, ltb, pos, length, Result, Ok, Err}
 use Rattle.std.proofs.Common.{sym, ap, ap₂, ◌∙◌, subst, arith}
 use borrow.Author.Tests.{lt-ltb, le-ltb, ltb-true, ltb-false}
 use Rattle.refusal.specs.Rules as rule
@@ -9,8 +9,6 @@ use Rattle.morton.specs.Laws.Cell.{cell_of-code}
 use Rattle.tiling.specs.Map.{limit, colour_in}
 use Rattle.tiling.specs.Check.{checked}
 use Rattle.tiling.specs.WellFormed.{WellFormed}
-use Rattle.tiling.specs.declared.Checked.{Checked}
-use Rattle.tiling.specs.declared.Checked.TheVariants.{Tiles, Wrong}
 use Rattle.tiling.specs.Laws.Check.{tiles_formed, formed_tiles}
 use Rattle.tiling.proofs.FirstWrong.{wrong_first, first_wrong}
 use Rattle.shortest.specs.Shortest.{shortest}
@@ -96,10 +94,10 @@ module _ (o : Operation) (n : ℕ) (a : List ℕ) (m : ℕ) (b : List ℕ) (s : 
   by_lists : Sizes n m w.size → Nearby s.dy s.dx w.wy w.wx → Overlays o n a m b s w space (judged n a m b s w end)
   by_lists z y = go (checked n a) refl (checked m b) refl
     where
-      go : (p : Checked) → checked n a ≡ p → (q : Checked) → checked m b ≡ q → Overlays o n a m b s w space (judged n a m b s w end)
-      go (Wrong i) e q f = told (Overlays.first_list z y (wrong_first n a i e))
-      go Tiles e (Wrong i) f = told (Overlays.second_list z y (tiles_formed n a e) (wrong_first m b i f))
-      go Tiles e Tiles f = by_room z y (tiles_formed n a e) (tiles_formed m b f)
+      go : (p : Result (Unit {0}) ℕ) → checked n a ≡ p → (q : Result (Unit {0}) ℕ) → checked m b ≡ q → Overlays o n a m b s w space (judged n a m b s w end)
+      go (Err i) e q f = told (Overlays.first_list z y (wrong_first n a i e))
+      go (Ok u) e (Err i) f = told (Overlays.second_list z y (tiles_formed n a e) (wrong_first m b i f))
+      go (Ok u) e (Ok v) f = by_room z y (tiles_formed n a e) (tiles_formed m b f)
 
   by_offsets : Sizes n m w.size → Overlays o n a m b s w space (judged n a m b s w end)
   by_offsets z = go (far s.dy) refl (far s.dx) refl (far w.wy) refl (far w.wx) refl
@@ -159,13 +157,13 @@ module _ (n : ℕ) (a : List ℕ) (w : Window) (space : ℕ) where
   windows = go (ltb limit n) refl (ltb limit w.size) refl (far w.wy) refl (far w.wx) refl (checked n a) refl
     where
       go : (p : Bool) → ltb limit n ≡ p → (q : Bool) → ltb limit w.size ≡ q → (r : Bool) → far w.wy ≡ r → (t : Bool) → far w.wx ≡ t
-          → (c : Checked) → checked n a ≡ c → Windows n a w space (windowed n a w space)
+          → (c : Result (Unit {0}) ℕ) → checked n a ≡ c → Windows n a w space (windowed n a w space)
       go true e q f r g t h c k = seen (Windows.size (ltb-true _ _ e))
       go false e true f r g t h c k = seen (Windows.window_size (ltb-false _ _ e) (ltb-true _ _ f))
       go false e false f true g t h c k = seen (Windows.wy_far (ltb-false _ _ e) (ltb-false _ _ f) g)
       go false e false f false g true h c k = seen (Windows.wx_far (ltb-false _ _ e) (ltb-false _ _ f) g h)
-      go false e false f false g false h (Wrong i) k = seen (Windows.list (ltb-false _ _ e) (ltb-false _ _ f) g h (wrong_first n a i k))
-      go false e false f false g false h Tiles k = window_room (ltb-false _ _ e) (ltb-false _ _ f) g h (tiles_formed n a k)
+      go false e false f false g false h (Err i) k = seen (Windows.list (ltb-false _ _ e) (ltb-false _ _ f) g h (wrong_first n a i k))
+      go false e false f false g false h (Ok u) k = window_room (ltb-false _ _ e) (ltb-false _ _ f) g h (tiles_formed n a k)
 
 -- ---- the cells of a list that shows a picture
 pub shown : (g : ℕ → ℕ → ℕ) (n : ℕ) (l : List ℕ) → n ≤ limit → IsShortest (by_code g) n l → (y x : ℕ) → y < 2 ^ n → x < 2 ^ n → colour_in n l (pos y) (pos x) ≡ g y x

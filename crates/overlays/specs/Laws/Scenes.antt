@@ -1,6 +1,6 @@
 -- The painter's scene shows the overlay's cells: what is biased stands for the row and the column.
-use Rattle.std.specs.Prelude.{◌≡◌, List, [], ℕ, ◌+◌, ◌≤◌, ◌<◌, ℤ, pos, neg_ℤ, ◌+ℤ◌, ◌-ℤ◌, nat_abs}
-use Rattle.std.proofs.Common.{sym, ap, ◌∙◌, subst, arith, SFits, to_z, of_z}
+use Rattle.std.specs.Prelude.{◌≡◌, List, [], ℕ, ◌+◌, ◌≤◌, ◌<◌, ℤ, pos, neg_ℤ, ◌+ℤ◌, ◌-ℤ◌, nat_abs, Result, Ok, Err}
+use Rattle.std.proofs.Common.{sym, ap, ◌∙◌, subst, arith, to_z, of_z}
 use Rattle.std.proofs.Math.Path.{ap₂}
 use Rattle.std.proofs.Math.IntN.{+ℤ_assoc, +ℤ_comm}
 use Rattle.std.specs.Int.{w64}
@@ -9,6 +9,7 @@ use Rattle.tiling.specs.Map.{limit, colour_in}
 use Rattle.tiling.specs.Leaf.{colours}
 use Rattle.tiling.specs.Laws.Check.{tiles_formed}
 use Rattle.refusal.specs.Answer.{gives, refuses}
+use Rattle.refusal.specs.Read.{rule_of, number_of}
 use Rattle.refusal.specs.declared.Refusal.{Refusal}
 use Rattle.shortest.specs.Shortest.{shortest}
 use Rattle.shortest.specs.Outcome.{Outcome, fitting}
@@ -24,13 +25,10 @@ use Rattle.painter.specs.Operation.{combine}
 use Rattle.painter.specs.Scene.{cell_of, picture}
 use Rattle.painter.specs.Painting.{Paints}
 use Rattle.painter.specs.declared.operations.Operation.{Operation}
-use Rattle.painter.specs.declared.scene.Scene.{Scene}
 use Rattle.overlays.specs.Overlay.{window_of, overlay_cell, by_code, judged, overlaid}
 use Rattle.overlays.specs.declared.Frame.{Frame}
 use Rattle.overlays.specs.Scenes.{unless, scene_of}
 use Rattle.overlays.specs.Laws.Checks.{Near, Right, judged_right, fine_passes}
-use Rattle.overlays.specs.declared.Verdict.{Verdict}
-use Rattle.overlays.specs.declared.Verdict.TheVariants.{Fine, Bad}
 use Rattle.overlays.specs.declared.Window.{Window}
 
 -- ---- numbers that are near, as the code holds them
@@ -39,16 +37,6 @@ near_back z h = back (small_fits z (omega arith))
 
 pub apart : (w d : ℤ) → nat_abs w ≤ farthest_offset → nat_abs d ≤ farthest_offset → nat_abs (w -ℤ d) ≤ reach
 apart w d hw hd = omega (arith, abs_sum w (neg_ℤ d), abs_neg d)
-
-pub apart_fits : (w d : ℤ) → nat_abs w ≤ farthest_offset → nat_abs d ≤ farthest_offset → SFits w64 (w -ℤ d)
-apart_fits w d hw hd = small_fits (w -ℤ d) (omega (arith, apart w d hw hd))
-
-pub apart_held : (w d : ℤ) → nat_abs w ≤ farthest_offset → nat_abs d ≤ farthest_offset → to_z w64 (of_z w64 (to_z w64 (of_z w64 w) -ℤ to_z w64 (of_z w64 d))) ≡ w -ℤ d
-apart_held w d hw hd = ap₂ (λ (a b : ℤ). to_z w64 (of_z w64 (a -ℤ b))) (near_back w hw) (near_back d hd) ∙ back (apart_fits w d hw hd)
-
-pub scene_is : (o : Operation) (n m : ℕ) (s : Shift) (w : Window) (p q r t : ℕ) → p ≡ biased w.wy → q ≡ biased w.wx → r ≡ biased (w.wy -ℤ s.dy) → t ≡ biased (w.wx -ℤ s.dx)
-    → ◌≡◌ {A = Scene} (record { operation = o; n = n; m = m; ay = p; ax = q; by = r; bx = t }) (scene_of o n m s w)
-scene_is o n m s w p q r t e f g h = rw (e, f, g, h)
 
 -- ---- the cells
 moved : (w d : ℤ) (y : ℕ) → w -ℤ d +ℤ pos y ≡ w +ℤ pos y -ℤ d
@@ -95,13 +83,13 @@ module _ (o : Operation) (n : ℕ) (a : List ℕ) (m : ℕ) (b : List ℕ) (s : 
       (picture (scene_of o n m s w) a b) (coloured (scene_of o n m s w) a b) (λ j l. pictures j)
 
 -- ---- what the whole call comes to
-module _ (o : Operation) (n : ℕ) (a : List ℕ) (m : ℕ) (b : List ℕ) (s : Shift) (w : Window) (v : Verdict) (e : (x : Outcome) → unless v x ≡ judged n a m b s w x) where
+module _ (o : Operation) (n : ℕ) (a : List ℕ) (m : ℕ) (b : List ℕ) (s : Shift) (w : Window) (v : Result (Unit {0}) Refusal) (e : (x : Outcome) → unless v x ≡ judged n a m b s w x) where
   -- a refusal
-  pub judged_bad : (r : Refusal) → v ≡ Bad r → (x : Outcome) → judged n a m b s w x ≡ refuses r.rule r.number
-  judged_bad r f x = sym (e x) ∙ ap (λ (z : Verdict). unless z x) f
+  pub judged_bad : (r : Refusal) → v ≡ Err r → (x : Outcome) → judged n a m b s w x ≡ refuses (rule_of r) (number_of r)
+  judged_bad r f x = sym (e x) ∙ ap (λ (z : Result (Unit {0}) Refusal). unless z x) f
 
   -- all is right
-  module _ (f : v ≡ Fine) where
+  module _ (f : v ≡ Ok tt) where
     pub judged_fine : (x : Outcome) → judged n a m b s w x ≡ x
     judged_fine x = sym (e x) ∙ fine_passes v f x
 

@@ -1,10 +1,9 @@
 -- `place::scaled` meets its contract: the product by 1024 is exact, the cast is in range, and the comparison tells whether anything was cut off.
 use Rattle.place.proofs.scaled.Goals.{After-nearest_i64_to_f64}
-use Rattle.std.proofs.Common.{◌≡◌, Bool, true, false, cond, pos, sym, ap, ◌∙◌, rules}
+use Rattle.std.proofs.Common.{◌≡◌, Some, None, Bool, true, false, cond, pos, sym, ap, ◌∙◌, rules}
 use Rattle.std.specs.Float.{fin, binary64}
 use Rattle.std.specs.Float.Ieee.{of_bits, neg, eq, mul, of_int}
 use Rattle.tiling.specs.Laws.Signed.{held}
-use Rattle.place.specs.declared.Whole.TheVariants.{Of, Nothing}
 use Rattle.place.specs.Placing.{in1024ths}
 use Rattle.place.specs.Laws.Scaling.{scale, castable, in_range, too_low, too_high, answer}
 use Rattle.place.proofs.scaled.Goals as goal
@@ -18,7 +17,7 @@ truncating_f64_to_i64-n-requires c =
 
 -- what the two calls and the comparison say, at the place behind the comparison
 told : (c : After-nearest_i64_to_f64) (b : Bool) → eq c.nearest_i64_to_f64.result (mul binary64 c.args.x (fin false 1 (pos 10))) ≡ b
-    → in1024ths c.args.x ≡ cond b (Of c.truncating_f64_to_i64-n.result) Nothing
+    → in1024ths c.args.x ≡ cond b (Some c.truncating_f64_to_i64-n.result) None
 unfolding of_bits neg
 told c b e =
     let n = c.truncating_f64_to_i64-n.result in
@@ -30,7 +29,7 @@ told c b e =
 
 pub returns-then-nearest_i64_to_f64-s : goal.returns-then-nearest_i64_to_f64-s
 unfolding of_bits
-returns-then-nearest_i64_to_f64-s c = ap Of (held _ c.truncating_f64_to_i64-n.type_inv) ∙ sym (told (goal.at.returns-then-nearest_i64_to_f64-s c).After-nearest_i64_to_f64 true c.if-nearest_i64_to_f64-s.true)
+returns-then-nearest_i64_to_f64-s c = ap Some (held _ c.truncating_f64_to_i64-n.type_inv) ∙ sym (told (goal.at.returns-then-nearest_i64_to_f64-s c).After-nearest_i64_to_f64 true c.if-nearest_i64_to_f64-s.true)
 
 pub returns-else-nearest_i64_to_f64-s : goal.returns-else-nearest_i64_to_f64-s
 unfolding of_bits

@@ -1,5 +1,5 @@
 -- Placing gives each answer exactly if it is allowed.
-use Rattle.std.specs.Prelude.{◌≡◌, ℕ, ◌+◌, Bool, true, false, T, ℤ, pos, negsuc, ◌-ℤ◌, ◌*ℤ◌, ◌<ℤ◌, ◌≢◌, int_lt, refl, Float}
+use Rattle.std.specs.Prelude.{◌≡◌, ℕ, ◌+◌, Bool, true, false, T, ℤ, pos, negsuc, ◌-ℤ◌, ◌*ℤ◌, ◌<ℤ◌, ◌≢◌, int_lt, refl, Float, Option, Some, None, Result, Ok, Err}
 use Rattle.std.proofs.Common.{sym, ap, ◌∙◌, subst, true≢false, arith, ltb→lt, eqb-true}
 use Rattle.std.specs.Int.Signed.{lt_z_yes}
 use Rattle.refusal.specs.Rules as rule
@@ -14,22 +14,19 @@ use Rattle.place.specs.declared.Place.{Place}
 use Rattle.place.specs.declared.Place.TheVariants.{Cells, OnGround}
 use Rattle.place.specs.declared.Shift.{Shift}
 use Rattle.place.specs.declared.Reading.{Reading}
-use Rattle.place.specs.declared.Reading.TheVariants.{Usable, Bad}
-use Rattle.place.specs.declared.Whole.{Whole}
-use Rattle.place.specs.declared.Whole.TheVariants.{Of, Nothing}
 
 -- ---- a number that is there, and one that is not
-none : {z : ℤ} → Nothing ≢ Of z
+none : {z : ℤ} → None ≢ Some z
 none e = let h : ◌≡◌ {A = ℕ} 0 1 = cc e in absurd (omega arith)
 
-not_there : (w : Whole) → ((z : ℤ) → w ≢ Of z) → w ≡ Nothing
-not_there Nothing h = refl
-not_there (Of z) h = absurd (h z refl)
+not_there : (w : Option ℤ) → ((z : ℤ) → w ≢ Some z) → w ≡ None
+not_there None h = refl
+not_there (Some z) h = absurd (h z refl)
 
-no_number : (x : Float) → ((z : ℤ) → Is x z → ⊥) → in1024ths x ≡ Nothing
+no_number : (x : Float) → ((z : ℤ) → Is x z → ⊥) → in1024ths x ≡ None
 no_number x h = not_there (in1024ths x) (λ z e. h z (in1024ths_is x z e))
 
-never : (x : Float) → in1024ths x ≡ Nothing → (z : ℤ) → Is x z → ⊥
+never : (x : Float) → in1024ths x ≡ None → (z : ℤ) → Is x z → ⊥
 never x e z i = none (sym e ∙ is_in1024ths x z i)
 
 -- ---- a cell side
@@ -37,48 +34,48 @@ truth : (b : Bool) → T b → b ≡ true
 truth true t = refl
 truth false t = absurd t
 
-a_side : (x : Float) (z : ℤ) → Is x z → pos 0 <ℤ z → cell_side x ≡ Of z
+a_side : (x : Float) (z : ℤ) → Is x z → pos 0 <ℤ z → cell_side x ≡ Some z
 unfolding cell_side
 a_side x z i h = rw (is_in1024ths x z i, truth (int_lt (pos 0) z) h.lt)
 
-above_is : (w : Whole) (z : ℤ) → above_zero w ≡ Of z → (w ≡ Of z) × (pos 0 <ℤ z)
-above_is Nothing z e = absurd (none e)
-above_is (Of y) z e =
+above_is : (w : Option ℤ) (z : ℤ) → above_zero w ≡ Some z → (w ≡ Some z) × (pos 0 <ℤ z)
+above_is None z e = absurd (none e)
+above_is (Some y) z e =
     let g = given (int_lt (pos 0) y) y z e in
-    (ap Of g.1, subst (λ x. pos 0 <ℤ x) g.1 (lt_z_yes (subst T (sym g.0) tt)))
+    (ap Some g.1, subst (λ x. pos 0 <ℤ x) g.1 (lt_z_yes (subst T (sym g.0) tt)))
 
-side_is : (x : Float) (z : ℤ) → cell_side x ≡ Of z → Is x z × (pos 0 <ℤ z)
+side_is : (x : Float) (z : ℤ) → cell_side x ≡ Some z → Is x z × (pos 0 <ℤ z)
 unfolding cell_side
 side_is x z e = let a = above_is (in1024ths x) z e in (in1024ths_is x z a.0, a.1)
 
-no_side : (x : Float) → ((z : ℤ) → Is x z → pos 0 <ℤ z → ⊥) → cell_side x ≡ Nothing
+no_side : (x : Float) → ((z : ℤ) → Is x z → pos 0 <ℤ z → ⊥) → cell_side x ≡ None
 no_side x h = not_there (cell_side x) (λ z e. let s = side_is x z e in h z s.0 s.1)
 
 -- ---- a reference
-usable : (g : Ground) {n e c : ℤ} → Reads g n e c → reading g ≡ Usable n e c
+usable : (g : Ground) {n e c : ℤ} → Reads g n e c → reading g ≡ Ok (record { north = n; east = e; cell = c })
 usable g r = sym (all_there g (is_in1024ths _ _ r.north) (is_in1024ths _ _ r.east) (a_side _ _ r.cell r.above))
 
-unusable : (g : Ground) (k : ℕ) → FirstUnusable g k → reading g ≡ Bad k
+unusable : (g : Ground) (k : ℕ) → FirstUnusable g k → reading g ≡ Err k
 unusable g k (FirstUnusable.north h) = sym (no_north g (no_number _ h))
 unusable g k (FirstUnusable.east n i h) = sym (no_east g (is_in1024ths _ n i) (no_number _ h))
 unusable g k (FirstUnusable.cell n e i j h) = sym (no_cell g (is_in1024ths _ n i) (is_in1024ths _ e j) (no_side _ h))
 
 -- what is known of a reference by its reading
-abbrev Seen : Ground → Reading → Type 0
-Seen g (Usable n e c) = Reads g n e c
-Seen g (Bad k) = FirstUnusable g k
+abbrev Seen : Ground → Result Reading ℕ → Type 0
+Seen g (Ok r) = Reads g r.north r.east r.cell
+Seen g (Err k) = FirstUnusable g k
 
 seen : (g : Ground) → Seen g (reading g)
 unfolding reading
 seen g = go (in1024ths g.north) refl (in1024ths g.east) refl (cell_side g.cell) refl
   where
-    go : (a : Whole) → in1024ths g.north ≡ a → (b : Whole) → in1024ths g.east ≡ b → (c : Whole) → cell_side g.cell ≡ c
-        → Seen g (need a (Bad 0) λ n. need b (Bad 1) λ e. need c (Bad 2) λ s. Usable n e s)
-    go Nothing p b q c r = FirstUnusable.north (never g.north p)
-    go (Of n) p Nothing q c r = FirstUnusable.east n (in1024ths_is g.north n p) (never g.east q)
-    go (Of n) p (Of e) q Nothing r =
+    go : (a : Option ℤ) → in1024ths g.north ≡ a → (b : Option ℤ) → in1024ths g.east ≡ b → (c : Option ℤ) → cell_side g.cell ≡ c
+        → Seen g (need a (Err 0) λ n. need b (Err 1) λ e. need c (Err 2) λ s. Ok (record { north = n; east = e; cell = s }))
+    go None p b q c r = FirstUnusable.north (never g.north p)
+    go (Some n) p None q c r = FirstUnusable.east n (in1024ths_is g.north n p) (never g.east q)
+    go (Some n) p (Some e) q None r =
         FirstUnusable.cell n e (in1024ths_is g.north n p) (in1024ths_is g.east e q) (λ z i h. none (sym r ∙ a_side g.cell z i h))
-    go (Of n) p (Of e) q (Of s) r =
+    go (Some n) p (Some e) q (Some s) r =
         let k = side_is g.cell s r in
         record { north = in1024ths_is g.north n p; east = in1024ths_is g.east e q; cell = k.0; above = k.1 }
 
@@ -111,58 +108,58 @@ not_same x y h = go (same x y) refl
     go true e = absurd (h (same_is x y e))
     go false e = refl
 
-exact_of : (z c q : ℤ) → pos 0 <ℤ c → exact z c ≡ Of q → q *ℤ c ≡ z
+exact_of : (z c q : ℤ) → pos 0 <ℤ c → exact z c ≡ Some q → q *ℤ c ≡ z
 exact_of z (pos k) q h e = exact_is z q k e
 exact_of z (negsuc k) q h e = absurd h.lt
 
-of_exact : (z c q : ℤ) → pos 0 <ℤ c → q *ℤ c ≡ z → exact z c ≡ Of q
+of_exact : (z c q : ℤ) → pos 0 <ℤ c → q *ℤ c ≡ z → exact z c ≡ Some q
 of_exact z (pos k) q h e = is_exact z q k (ltb→lt 0 k h.lt) e
 of_exact z (negsuc k) q h e = absurd h.lt
 
-no_exact : (z c : ℤ) → pos 0 <ℤ c → ((q : ℤ) → q *ℤ c ≢ z) → exact z c ≡ Nothing
+no_exact : (z c : ℤ) → pos 0 <ℤ c → ((q : ℤ) → q *ℤ c ≢ z) → exact z c ≡ None
 no_exact z c h f = not_there (exact z c) (λ q e. f q (exact_of z c q h e))
 
-never_exact : (z c : ℤ) → pos 0 <ℤ c → exact z c ≡ Nothing → (q : ℤ) → q *ℤ c ≢ z
+never_exact : (z c : ℤ) → pos 0 <ℤ c → exact z c ≡ None → (q : ℤ) → q *ℤ c ≢ z
 never_exact z c h n q e = none (sym n ∙ of_exact z c q h e)
 
 -- ---- a place on the ground
 module _ (a b : Ground) where
-  met : (n1 e1 c1 n2 e2 c2 : ℤ) → Reads a n1 e1 c1 → Reads b n2 e2 c2 → OnTheGround a b (between n1 e1 c1 n2 e2 c2)
-  met n1 e1 c1 n2 e2 c2 r s = go (same c1 c2) refl (exact (n1 -ℤ n2) c1) refl (exact (e2 -ℤ e1) c1) refl
+  met : (x y : Reading) → Seen a (Ok x) → Seen b (Ok y) → OnTheGround a b (between x y)
+  met x y r s = go (same x.cell y.cell) refl (exact (x.north -ℤ y.north) x.cell) refl (exact (y.east -ℤ x.east) x.cell) refl
     where
-      alike : same c1 c2 ≡ true → Reads b n2 e2 c1
-      alike p = subst (λ c. Reads b n2 e2 c) (sym (same_is c1 c2 p)) s
+      alike : same x.cell y.cell ≡ true → Reads b y.north y.east x.cell
+      alike p = subst (λ c. Reads b y.north y.east c) (sym (same_is x.cell y.cell p)) s
 
-      go : (t : Bool) → same c1 c2 ≡ t → (u : Whole) → exact (n1 -ℤ n2) c1 ≡ u → (v : Whole) → exact (e2 -ℤ e1) c1 ≡ v
-          → OnTheGround a b (between n1 e1 c1 n2 e2 c2)
-      go false p u q v w = rw (← cells_differ n1 e1 c1 n2 e2 c2 p) (OnTheGround.sides r s (λ e. true≢false (sym (same_yes c1 c2 e) ∙ p)))
-      go true p Nothing q v w = rw (← rows_split n1 e1 c1 n2 e2 c2 p q) (OnTheGround.rows r (alike p) (never_exact _ c1 r.above q))
-      go true p (Of dy) q Nothing w = rw (← columns_split n1 e1 c1 n2 e2 c2 p dy q w)
-          (OnTheGround.columns dy r (alike p) (exact_of _ c1 dy r.above q) (never_exact _ c1 r.above w))
-      go true p (Of dy) q (Of dx) w = rw (← shifted n1 e1 c1 n2 e2 c2 p dy dx q w)
-          (OnTheGround.whole r (alike p) (exact_of _ c1 dy r.above q) (exact_of _ c1 dx r.above w) (in_cells dy dx))
+      go : (t : Bool) → same x.cell y.cell ≡ t → (u : Option ℤ) → exact (x.north -ℤ y.north) x.cell ≡ u → (v : Option ℤ) → exact (y.east -ℤ x.east) x.cell ≡ v
+          → OnTheGround a b (between x y)
+      go false p u q v w = rw (← cells_differ x y p) (OnTheGround.sides r s (λ e. true≢false (sym (same_yes x.cell y.cell e) ∙ p)))
+      go true p None q v w = rw (← rows_split x y p q) (OnTheGround.rows r (alike p) (never_exact _ x.cell r.above q))
+      go true p (Some dy) q None w = rw (← columns_split x y p dy q w)
+          (OnTheGround.columns dy r (alike p) (exact_of _ x.cell dy r.above q) (never_exact _ x.cell r.above w))
+      go true p (Some dy) q (Some dx) w = rw (← shifted x y p dy dx q w)
+          (OnTheGround.whole r (alike p) (exact_of _ x.cell dy r.above q) (exact_of _ x.cell dx r.above w) (in_cells dy dx))
 
   on_the_ground : OnTheGround a b (on_ground a b)
   unfolding on_ground
   on_the_ground = go (reading a) (seen a) (reading b) (seen b)
     where
-      go : (u : Reading) → Seen a u → (v : Reading) → Seen b v
+      go : (u : Result Reading ℕ) → Seen a u → (v : Result Reading ℕ) → Seen b v
           → OnTheGround a b
-          (of_reading u (λ k. refuses rule.ground_number k) λ n1 e1 c1. of_reading v (λ k. refuses rule.ground_number (k + 3)) λ n2 e2 c2. between n1 e1 c1 n2 e2 c2)
-      go (Bad k) f v g = OnTheGround.first f
-      go (Usable n1 e1 c1) f (Bad k) g = OnTheGround.second f g
-      go (Usable n1 e1 c1) f (Usable n2 e2 c2) g = met n1 e1 c1 n2 e2 c2 f g
+          (of_reading u (λ k. refuses rule.ground_number k) λ x. of_reading v (λ k. refuses rule.ground_number (k + 3)) λ y. between x y)
+      go (Err k) f v g = OnTheGround.first f
+      go (Ok x) f (Err k) g = OnTheGround.second f g
+      go (Ok x) f (Ok y) g = met x y f g
 
   from_ground : (x : Answer Shift) → OnTheGround a b x → on_ground a b ≡ x
   from_ground x (OnTheGround.first {k = k} f) = sym (first_bad a b (unusable a k f))
   from_ground x (OnTheGround.second {k = k} r f) = sym (second_bad a b (usable a r) (unusable b k f))
-  from_ground x (OnTheGround.sides r s h) = sym (cells_differ _ _ _ _ _ _ (not_same _ _ h) ∙ both_read a b (usable a r) (usable b s))
+  from_ground x (OnTheGround.sides r s h) = sym (cells_differ _ _ (not_same _ _ h) ∙ both_read a b (usable a r) (usable b s))
   from_ground x (OnTheGround.rows {c = c} r s h) =
-      sym (rows_split _ _ _ _ _ _ (same_yes c c refl) (no_exact _ _ r.above h) ∙ both_read a b (usable a r) (usable b s))
+      sym (rows_split _ _ (same_yes c c refl) (no_exact _ _ r.above h) ∙ both_read a b (usable a r) (usable b s))
   from_ground x (OnTheGround.columns {c = c} dy r s e h) =
-      sym (columns_split _ _ _ _ _ _ (same_yes c c refl) dy (of_exact _ _ dy r.above e) (no_exact _ _ r.above h) ∙ both_read a b (usable a r) (usable b s))
+      sym (columns_split _ _ (same_yes c c refl) dy (of_exact _ _ dy r.above e) (no_exact _ _ r.above h) ∙ both_read a b (usable a r) (usable b s))
   from_ground x (OnTheGround.whole {c = c} {dy = dy} {dx = dx} r s e f i) =
-      sym (shifted _ _ _ _ _ _ (same_yes c c refl) dy dx (of_exact _ _ dy r.above e) (of_exact _ _ dx r.above f) ∙ both_read a b (usable a r) (usable b s))
+      sym (shifted _ _ (same_yes c c refl) dy dx (of_exact _ _ dy r.above e) (of_exact _ _ dx r.above f) ∙ both_read a b (usable a r) (usable b s))
       ∙ from_cells dy dx x i
 
 -- ---- both

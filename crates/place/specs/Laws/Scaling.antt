@@ -1,5 +1,5 @@
 -- A ground number times 1024 is exact, and so is what comes of it as an integer.
-use Rattle.std.specs.Prelude.{◌≡◌, ℕ, zero, suc, ◌+◌, ◌-◌, ◌*◌, ◌/◌, ◌%◌, ◌^◌, ◌<◌, ◌≤◌, min, Bool, true, false, cond, ◌&&◌, ◌||◌, T, ltb, leb, ◌⊎◌, ℤ, pos, negsuc, neg_ℤ, ◌==◌, ◌≢◌, nat_eq, nat_le, nat_lt, refl, Float}
+use Rattle.std.specs.Prelude.{◌≡◌, ℕ, zero, suc, ◌+◌, ◌-◌, ◌*◌, ◌/◌, ◌%◌, ◌^◌, ◌<◌, ◌≤◌, min, Bool, true, false, cond, ◌&&◌, ◌||◌, T, ltb, leb, ◌⊎◌, ℤ, pos, negsuc, neg_ℤ, ◌==◌, ◌≢◌, nat_eq, nat_le, nat_lt, refl, Float, Some, None}
 use Rattle.std.proofs.Common.{sym, ap, ◌∙◌, subst, inl, inr, mul-pos, le_trans, le_of_eq, le_of_lt, le_of_suc-le-suc, lt_of_lt_of_le, lt_of_le_of_lt, lt_of_not-le, lt_irrefl, zero-mul, mul-one, mul_assoc, mul_comm, mul_left_comm, mul_right_comm, mul-le-mul_right, le_of_mul-le-mul_right, div-add-mod', div-lt_iff_lt-mul, arith, true≢false, lit≤, lit<, leb→le, ltb→lt, lt→ltb, pow-add, pow_pos, leb-true, lt-ltb, le-ltb, le-leb, eq-eqb, ne_eqb}
 use Rattle.std.proofs.Math.Nat.{eq_of_mul-eq-mul_right}
 use Rattle.std.specs.Bool.{beq}
@@ -16,7 +16,6 @@ use Rattle.std.specs.Float.Ieee.Positive.{num, den}
 use Rattle.std.proofs.lemmas.Bool.{lt-leb}
 use Rattle.std.proofs.Math.Arith.{lt_of_le-ne}
 use Rattle.place.specs.Placing.{signed, in1024ths}
-use Rattle.place.specs.declared.Whole.TheVariants.{Of, Nothing}
 
 -- ---- scaling: m * 2 ^ e * 1024 is q * 2 ^ j of the format's smallest values, with q = m
 pow_le_back : (a l : ℕ) → 2 ^ a ≤ 2 ^ l → a ≤ l
@@ -248,29 +247,29 @@ in_range (fin true m e) l h = leb-true _ _ (sym (le_low (m * up e) (down e)) ∙
 in_range (fin false m e) l h = leb-true _ _ (sym (le_high (m * up e) (down e)) ∙ h)
 
 -- what the spec says of a number in range, and of one beyond it
-unusable : (p : Bool) (z : ℤ) → cond (p && false) (Of z) Nothing ≡ Nothing
+unusable : (p : Bool) (z : ℤ) → cond (p && false) (Some z) None ≡ None
 unusable true z = refl
 unusable false z = refl
 
-by_rest : (p : Bool) (z : ℤ) → cond (p && true) (Of z) Nothing ≡ cond p (Of z) Nothing
+by_rest : (p : Bool) (z : ℤ) → cond (p && true) (Some z) None ≡ cond p (Some z) None
 by_rest true z = refl
 by_rest false z = refl
 
-pub too_low : (x : Float) → le (fin true 1 (pos 24)) x ≡ false → in1024ths x ≡ Nothing
+pub too_low : (x : Float) → le (fin true 1 (pos 24)) x ≡ false → in1024ths x ≡ None
 unfolding le in1024ths
 too_low nan l = refl
 too_low (inf s) l = refl
 too_low (fin true m e) l = rw (sym (le_low (m * up e) (down e)) ∙ l) (unusable (m * up e * 1024 % down e == 0) (neg_ℤ (pos (m * up e * 1024 / down e))))
 too_low (fin false m e) l = absurd (subst T l (under 0 (16777216 * down e + m * up e * 1) (omega (arith, down_pos e)) _))
 
-pub too_high : (x : Float) → le x (fin false 1 (pos 24)) ≡ false → in1024ths x ≡ Nothing
+pub too_high : (x : Float) → le x (fin false 1 (pos 24)) ≡ false → in1024ths x ≡ None
 unfolding le in1024ths
 too_high nan l = refl
 too_high (inf s) l = refl
 too_high (fin false m e) l = rw (sym (le_high (m * up e) (down e)) ∙ l) (unusable (m * up e * 1024 % down e == 0) (pos (m * up e * 1024 / down e)))
 too_high (fin true m e) l = absurd (subst T l (under 0 (m * up e * 1 + 16777216 * down e) (omega (arith, down_pos e)) _))
 
-pub within : (x : Float) (b : Bool) → InRange x → (num x * 1024 % den x == 0) ≡ b → in1024ths x ≡ cond b (Of (signed (sign x) (num x * 1024 / den x))) Nothing
+pub within : (x : Float) (b : Bool) → InRange x → (num x * 1024 % den x == 0) ≡ b → in1024ths x ≡ cond b (Some (signed (sign x) (num x * 1024 / den x))) None
 unfolding in1024ths
 within nan b h e = absurd h
 within (inf s) b h e = absurd h
@@ -279,11 +278,11 @@ within (fin s m e) b h k = rw (le-leb _ _ h, k) (by_rest b (signed s (m * up e *
 -- ---- `scaled`: cut, turned back and compared
 pub answer : (x : Float) → T (fits binary64 x) → le (fin true 1 (pos 24)) x ≡ true → le x (fin false 1 (pos 24)) ≡ true
     → (z : ℤ) (w : Float) (b : Bool) → z ≡ to_signed 63 (mul binary64 x (fin false 1 (pos 10))) → w ≡ of_int binary64 z → eq w (mul binary64 x (fin false 1 (pos 10))) ≡ b
-    → in1024ths x ≡ cond b (Of z) Nothing
+    → in1024ths x ≡ cond b (Some z) None
 answer x t l h z w b ez ew eb =
     let y = mul binary64 x (fin false 1 (pos 10)) in
     let r = in_range x l h in
     let S = scale x t r in
     let cz : z ≡ signed (sign x) (num x * 1024 / den x) = ez ∙ cut y (sign x) (num x * 1024) (den x) S in
     within x b r (sym (float_back y (sign x) (num x * 1024) (den x) S) ∙ ap (λ (u : Float). eq u y) (sym (ew ∙ ap (of_int binary64) cz)) ∙ eb)
-    ∙ ap (λ (u : ℤ). cond b (Of u) Nothing) (sym cz)
+    ∙ ap (λ (u : ℤ). cond b (Some u) None) (sym cz)
