@@ -1,5 +1,5 @@
 -- A text is read exactly if it is a picture, and then as that picture.
-use Rattle.std.specs.Prelude.{◌≡◌, refl, Bool, true, false, ◌||◌, not, cond, List, [], ◌∷◌, ◌++◌, ◌⊎◌, ℕ, zero, suc, ◌+◌, ◌*◌, ◌-◌, ◌^◌, ◌<◌, eqb, leb, length, drop}
+use Rattle.std.specs.Prelude.{◌≡◌, refl, Bool, true, false, ◌||◌, not, cond, List, [], ◌∷◌, ◌++◌, ◌⊎◌, ℕ, zero, suc, ◌+◌, ◌*◌, ◌-◌, ◌^◌, ◌<◌, eqb, leb, length, drop, map, filter}
 use Rattle.std.proofs.Common.{sym, ap, ap₂, ◌∙◌, subst, append_assoc, inl, inr, ⊎_elim, arith, eqb-true, ne_eqb, leb-true}
 use Rattle.std.proofs.lemmas.Bool.{false≢true, not-true}
 use Rattle.std.proofs.Math.Nat.{one-le-pow}
@@ -9,7 +9,7 @@ use Rattle.pbm.specs.Bytes.{is_space, ends_line, is_digit, is_cell, hash, zero_d
 use Rattle.pbm.specs.Reading.{past_comment, past_blanks, blank, past_blank, past_digits, number, past_field, is_field, field, size_from, size_of_side, is_plain, at_width, at_height, at_cells, size, only_cells, cells, picture}
 use Rattle.pbm.specs.Picture.{every, Comment, Blank, Blanks, decimal, Decimal, Header, Cells, IsPicture, Reads, Picture}
 use Rattle.pbm.specs.Laws.Text.{comment_past}
-use Rattle.pbm.specs.Laws.Header.{all-header}
+use Rattle.pbm.specs.Laws.Header.{all-header, plain-drop}
 use Rattle.pbm.specs.Laws.Picture.{reads_picture, Parts, picture_parts, read_or_refused}
 
 -- a digit is neither white space nor the beginning of a comment
@@ -95,7 +95,6 @@ cell_digit : (b : ℕ) → is_cell b ≡ true → is_digit b ≡ true
 cell_digit b e = ⊎_elim (λ x. rw (eqb-true b 48 x)) (λ x. rw (eqb-true b 49 x)) (or_either (eqb b 48) (eqb b 49) e)
 
 cells_read : {t l : List ℕ} → Cells t l → (only_cells t ≡ true) × (cells t ≡ l)
-unfolding only_cells cells
 cells_read Cells.none = (refl, refl)
 cells_read (Cells.space e r) = rw e (cells_read r)
 cells_read (Cells.cell {b = b} e r) = let q = cells_read r in rw ((digit_apart b (cell_digit b e)).0, e) (q.0, ap (λ l. (b - zero_digit) ∷ l) q.1)
@@ -230,12 +229,6 @@ field_front x e h = go (digits_front (past_blanks false x) 0)
         (λ w. (w.0, b ∷ d, w.1, record { some = omega arith; digits = a; is = sym n }, w.2))
         (blanks_front false x b (d ++ past_field x) q)
 
-plain_front : (t : List ℕ) → is_plain t ≡ true → t ≡ 80 ∷ 49 ∷ drop 2 t
-unfolding is_plain
-plain_front [] e = absurd (false≢true e)
-plain_front (p ∷ []) e = absurd (false≢true e)
-plain_front (p ∷ q ∷ t) e = let k = and_both (eqb p 80) (eqb q 49) e in ap₂ (λ x y. x ∷ y ∷ t) (eqb-true p 80 k.0) (eqb-true q 49 k.1)
-
 -- one blank, if something follows it
 blank_front : (y : List ℕ) → blank y ≡ true → 0 < length (past_blank y) → (s : List ℕ) × Blank s × (y ≡ s ++ past_blank y)
 unfolding blank past_blank
@@ -254,11 +247,10 @@ blank_front (b ∷ y) e h = go (eqb b hash) refl h
     go false q k = (b ∷ [], Blank.byte (⊎_elim (λ x. x) (λ x. absurd (false≢true (sym q ∙ x))) (or_either (is_space b) (eqb b hash) e)), refl)
 
 cells_front : (x : List ℕ) → only_cells x ≡ true → Cells x (cells x)
-unfolding only_cells cells
 cells_front [] e = Cells.none
 cells_front (b ∷ x) e = let k = and_both (is_space b || is_cell b) _ e in go (is_space b) refl (cells_front x k.1) k.0
   where
-    go : (y : Bool) → is_space b ≡ y → Cells x (cells x) → (is_space b || is_cell b) ≡ true → Cells (b ∷ x) (cond y (cells x) ((b - zero_digit) ∷ cells x))
+    go : (y : Bool) → is_space b ≡ y → Cells x (cells x) → (is_space b || is_cell b) ≡ true → Cells (b ∷ x) (map (λ c. c - zero_digit) (cond (not y) (b ∷ filter (λ c. not (is_space c)) x) (filter (λ c. not (is_space c)) x)))
     go true q c k = Cells.space q c
     go false q c k = Cells.cell (⊎_elim (λ z. absurd (false≢true (sym q ∙ z))) (λ z. z) (or_either (is_space b) (is_cell b) k)) c
 
@@ -273,7 +265,6 @@ size_from_side (suc more) n v h = go (eqb v (2 ^ n)) refl (size_from_side more (
     go false q f k = f (omega arith)
 
 some_cells : (x : List ℕ) → 0 < length (cells x) → 0 < length x
-unfolding cells
 some_cells [] h = h
 some_cells (b ∷ x) h = omega arith
 
@@ -300,7 +291,7 @@ module _ (t : List ℕ) (p : Picture) (e : picture t ≡ gives p) where
 
   from_parts : t ≡ (80 ∷ 49 ∷ (wide.0 ++ (wide.1 ++ (high.0 ++ (high.1 ++ last.0))))) ++ at_cells t
   from_parts =
-      plain_front t parts.headers.plain
+      plain-drop t parts.headers.plain
       ∙ ap (λ x. 80 ∷ 49 ∷ x) (wide.4 ∙ ap (λ x. wide.0 ++ (wide.1 ++ x)) (high.4 ∙ ap (λ x. high.0 ++ (high.1 ++ x)) last.2))
       ∙ simp append_assoc
 

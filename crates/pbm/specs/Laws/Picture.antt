@@ -1,20 +1,15 @@
 -- The ways in which a text is not read, and the way in which it is.
 use Rattle.std.specs.Prelude.{◌≡◌, refl, Bool, true, false, not, List, ◌++◌, ◌⊎◌, ℕ, ◌^◌, ◌≤◌, ◌<◌, ltb, eqb, length, take, drop}
-use Rattle.std.proofs.Common.{sym, ap, ap₂, ◌∙◌, subst, inl, inr, arith, length-append}
+use Rattle.std.proofs.Common.{ap, ap₂, ◌∙◌, subst, inl, inr, arith, length-append}
 use Rattle.std.proofs.Math.Seq.{take-append_seam}
 use borrow.Author.Tests.{lt-ltb, le-ltb, eq-eqb, ne_eqb, eqb-true, ltb-false, not-false}
 use Rattle.refusal.specs.Rules as rule
 use Rattle.refusal.specs.Answer.{Answer, gives, refuses}
-use Rattle.shortest.specs.Outcome.{left}
 use Rattle.pbm.specs.Bytes.{longest}
 use Rattle.pbm.specs.Reading.{is_header, only_cells, at_cells, cells, size, unread, picture}
 use Rattle.pbm.specs.Picture.{Picture}
-use Rattle.pbm.specs.Answers.{size_given, cells_given}
+use Rattle.pbm.specs.Answers.{size_given}
 use Rattle.pbm.specs.Laws.Header.{Headers, header-all}
-
--- what is known of the picture tells the answer and the memory
-pub tells : {x a : Answer Picture} → x ≡ a → (old : List ℕ) → (size_given a ≡ size_given x) × (left (cells_given a) old ≡ left (cells_given x) old)
-tells e old = (sym (ap size_given e), sym (ap (λ y. left (cells_given y) old) e))
 
 module _ (t : List ℕ) where
   pub too_long : longest < length t → picture t ≡ refuses rule.picture_text 0
