@@ -27,6 +27,7 @@ pub fn put(text: &[u8], out: &mut [u8])
     ensures { out.new ≡ sets out.old 0 (cells text.now) }
 {
     let mut k = 0;
+    // k cells are written; the white space between them takes no room
     for b in text {
         if !bytes::is_space(*b) {
             out[k] = *b - b'0';

@@ -1,13 +1,12 @@
 -- Numbers, sizes and fields of a header.
-use Rattle.std.specs.Prelude.{◌≡◌, refl, Bool, true, false, ◌&&◌, cond, List, [], ◌∷◌, ℕ, zero, suc, ◌+◌, ◌*◌, ◌^◌, ◌≤◌, ◌<◌, eqb, leb, drop}
+use Rattle.std.specs.Prelude.{◌≡◌, refl, Bool, true, false, ◌&&◌, cond, List, [], ◌∷◌, ℕ, zero, suc, ◌+◌, ◌*◌, ◌^◌, ◌≤◌, ◌<◌, eqb, drop}
 use Rattle.std.proofs.Common.{sym, ap, ap₂, ◌∙◌, arith, take}
 use Rattle.std.specs.Cmp.Lexicographic.{pointwise}
 use Rattle.std.proofs.lemmas.Bool.{false≢true}
 use Rattle.std.proofs.Math.Nat.{pow-le-pow_right}
 use Rattle.std.proofs.Math.Dec.{ltb}
-use borrow.Author.Tests.{ne_eqb, eq-eqb, leb-true, lt-ltb, le-ltb, ltb-true, ltb-false, eqb-true}
+use borrow.Author.Tests.{ne_eqb, eq-eqb, lt-ltb, le-ltb, ltb-true, ltb-false, eqb-true}
 use Rattle.tiling.specs.Laws.Tests.{and_both, both_and, and_first, and_second}
-use Rattle.pbm.specs.Bytes.{is_digit}
 use Rattle.pbm.specs.Reading.{is_field, field, size_from, size_of_side, is_plain, at_width, at_height, size, is_header}
 use Rattle.pbm.specs.Steps.{capped}
 
@@ -16,15 +15,8 @@ pub large_side : (v : ℕ) → 32 < v → size_of_side v ≡ 6
 unfolding size_from
 large_side v h = rw (ne_eqb v 1 (λ e. omega arith), ne_eqb v 2 (λ e. omega arith), ne_eqb v 4 (λ e. omega arith), ne_eqb v 8 (λ e. omega arith), ne_eqb v 16 (λ e. omega arith), ne_eqb v 32 (λ e. omega arith))
 
-pub no_side : (v : ℕ) → (v ≡ 1 → ⊥) → (v ≡ 2 → ⊥) → (v ≡ 4 → ⊥) → (v ≡ 8 → ⊥) → (v ≡ 16 → ⊥) → (v ≡ 32 → ⊥) → size_of_side v ≡ 6
-unfolding size_from
-no_side v a b c d e f = rw (ne_eqb v 1 a, ne_eqb v 2 b, ne_eqb v 4 c, ne_eqb v 8 d, ne_eqb v 16 e, ne_eqb v 32 f)
-
 pub capped_more : (v d : ℕ) → capped (10 * capped v + d) ≡ capped (10 * v + d)
 capped_more v d = omega arith
-
-pub digit_zero : (b : ℕ) → is_digit b ≡ true → 48 ≤ b
-digit_zero b e = leb-true 48 b (and_both (leb 48 b) (leb b 57) e).0
 
 -- whether a text begins with `P1`
 pub plain-drop : (t : List ℕ) → is_plain t ≡ true → t ≡ 80 ∷ 49 ∷ drop 2 t

@@ -37,7 +37,7 @@ module _ (t : List ℕ) where
 
 unread_gives : (b : Bool) (after : Answer Picture) (p : Picture) → unread b after ≡ gives p → (b ≡ false) × (after ≡ gives p)
 unread_gives false after p e = (refl, e)
-unread_gives true after p e = let z : ◌≡◌ {A = ℕ} 0 1 = cc in absurd (omega arith)
+unread_gives true after p e = cc
 
 -- what is known of a text that is read as p
 pub record Parts (t : List ℕ) (p : Picture) : Type 0 where
@@ -80,11 +80,7 @@ read_or_refused t =
 -- what the answer tells of the picture
 pub given_picture : (x : Answer Picture) (n : ℕ) → gives n ≡ size_given x → (p : Picture) × (x ≡ gives p) × (n ≡ p.of_size)
 given_picture (gives p) n e = (p, refl, cc)
-given_picture (refuses r k) n e = let z : ◌≡◌ {A = ℕ} 0 1 = cc in absurd (omega arith)
-
-pub refused_picture : (x : Answer Picture) (r k : ℕ) → refuses r k ≡ size_given x → x ≡ refuses r k
-refused_picture (gives p) r k e = let z : ◌≡◌ {A = ℕ} 0 1 = cc in absurd (omega arith)
-refused_picture (refuses r' k') r k e = cc
+given_picture (refuses r k) n e = cc
 
 -- what stands at the front of the memory, taken back
 pub front : (l old new : List ℕ) (k : ℕ) → k ≡ length l → new ≡ l ++ drop (length l) old → (k ≤ length new) × (take k new ≡ l)

@@ -4,7 +4,7 @@ use Rattle.std.proofs.Common.{sym, ap, ◌∙◌, add-one, arith, append_assoc, 
 use Rattle.pbm.specs.Bytes.{zero_digit}
 use Rattle.std.proofs.lemmas.List.{drop-set}
 use Rattle.tiling.specs.Leaf.{level_of, colour_of}
-use Rattle.printing.specs.Lines.{digits, decimals, code_digits, numeral, line, lines}
+use Rattle.printing.specs.Lines.{digits, decimals, code_digits, line, lines}
 
 pub digits-length : (base k v : ℕ) → length (digits base k v) ≡ k
 unfolding digits
@@ -23,9 +23,6 @@ pub digits_none : (base i v : ℕ) (o : List ℕ) → i ≤ 0 → digits base i 
 unfolding digits
 digits_none base zero v o h = refl
 digits_none base (suc i) v o h = absurd (omega arith)
-
-pub numeral-length : (base k v end : ℕ) → length (numeral base k v end) ≡ k + 1
-numeral-length base k v end = simp length-append (omega (arith, digits-length base k v))
 
 pub few_decimals : (v : ℕ) → decimals v ≤ 3
 few_decimals v = go (ltb v 10) (ltb v 100)
