@@ -1,14 +1,8 @@
--- The answer of reading, as the paper has it: the picture's size, or a refusal's No. and its number; and the memory.
+-- What is answered of a picture that is read: its size, and its cells in the memory lent.
 use Rattle.std.specs.Prelude.{ℕ}
 use Rattle.refusal.specs.Answer.{Answer, gives, refuses}
 use Rattle.shortest.specs.Outcome.{Outcome}
 use Rattle.pbm.specs.Picture.{Picture}
-use Rattle.pbm.specs.declared.Reading.{Reading}
-use Rattle.pbm.specs.declared.Reading.TheVariants.{Size, Refused}
-
-abbrev pub sized : Reading → Answer ℕ
-sized (Size n) = gives n
-sized (Refused r) = refuses r.rule r.number
 
 -- the answer gives the size; the cells are written into the memory lent
 abbrev pub size_given : Answer Picture → Answer ℕ

@@ -2,4 +2,3 @@ pub mod Text
 pub mod Header
 pub mod Picture
 pub mod Exactly
-pub mod OneAnswer

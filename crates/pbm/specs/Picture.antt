@@ -1,19 +1,16 @@
 -- What a plain PBM picture is, apart from how it is read: the header, and the cells.
-use Rattle.std.specs.Prelude.{◌≡◌, Bool, true, ◌&&◌, not, List, [], ◌∷◌, ◌++◌, ℕ, ◌+◌, ◌*◌, ◌-◌, ◌^◌, ◌≤◌, ◌<◌, length}
+use Rattle.std.specs.Prelude.{◌≡◌, true, not, List, [], ◌∷◌, ◌++◌, ℕ, ◌+◌, ◌*◌, ◌-◌, ◌^◌, ◌≤◌, ◌<◌, length}
+use Rattle.std.specs.List.{list_all}
 use Rattle.refusal.specs.Rules as rule
 use Rattle.refusal.specs.Answer.{Answer, gives, refuses}
 use Rattle.pbm.specs.Bytes.{is_space, ends_line, is_digit, is_cell, hash, zero_digit, longest, sizes}
-
-unfoldable pub every : (ℕ → Bool) → List ℕ → Bool
-every test [] = true
-every test (b ∷ t) = test b && every test t
 
 -- `#` up to the next LF or CR
 pub record Comment (t : List ℕ) : Type 0 where
   pub body : List ℕ
   pub end : ℕ
   pub is : t ≡ hash ∷ (body ++ end ∷ [])
-  pub within : every (λ b. not (ends_line b)) body ≡ true
+  pub within : list_all (λ b. not (ends_line b)) body ≡ true
   pub ends : ends_line end ≡ true
 
 -- in a header a comment counts as white space
@@ -32,7 +29,7 @@ decimal v (b ∷ t) = decimal (10 * v + (b - zero_digit)) t
 
 pub record Decimal (v : ℕ) (t : List ℕ) : Type 0 where
   pub some : 0 < length t
-  pub digits : every is_digit t ≡ true
+  pub digits : list_all is_digit t ≡ true
   pub is : decimal 0 t ≡ v
 
 -- `P1`, then width, then height, each followed by white space; the first white space byte or comment after the height ends it

@@ -1,5 +1,6 @@
 -- What a picture text is read as: a size and cells, or nothing.
-use Rattle.std.specs.Prelude.{Bool, true, false, ◌&&◌, ◌||◌, not, cond, List, [], ◌∷◌, ℕ, zero, suc, ◌+◌, ◌*◌, ◌-◌, ◌^◌, ltb, eqb, length, drop}
+use Rattle.std.specs.Prelude.{Bool, true, false, ◌&&◌, ◌||◌, not, cond, List, [], ◌∷◌, ℕ, zero, suc, ◌+◌, ◌*◌, ◌-◌, ◌^◌, ltb, eqb, length, drop, map, filter}
+use Rattle.std.specs.List.{list_all}
 use Rattle.refusal.specs.Rules as rule
 use Rattle.refusal.specs.Answer.{Answer, gives, refuse_if}
 use Rattle.pbm.specs.Picture.{Picture}
@@ -78,13 +79,15 @@ unfoldable pub is_header : List ℕ → Bool
 is_header t = is_plain t && is_field (at_width t) && is_field (at_height t) && ltb (size t) sizes && eqb (field (at_height t)) (field (at_width t))
 
 -- cells, together or apart, and nothing else
-unfoldable pub only_cells : List ℕ → Bool
-only_cells [] = true
-only_cells (b ∷ t) = (is_space b || is_cell b) && only_cells t
+abbrev pub only_cells : List ℕ → Bool
+only_cells t = list_all (λ b. is_space b || is_cell b) t
 
-unfoldable pub cells : List ℕ → List ℕ
-cells [] = []
-cells (b ∷ t) = cond (is_space b) (cells t) ((b - zero_digit) ∷ cells t)
+-- the bytes that stand for cells, and the cells
+abbrev pub cell_bytes : List ℕ → List ℕ
+cell_bytes t = filter (λ b. not (is_space b)) t
+
+abbrev pub cells : List ℕ → List ℕ
+cells t = map (λ b. b - zero_digit) (cell_bytes t)
 
 -- the picture that a text is read as; else it is refused
 abbrev pub unread : Bool → Answer Picture → Answer Picture

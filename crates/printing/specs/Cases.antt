@@ -3,8 +3,8 @@ use Rattle.std.specs.Prelude.{◌≡◌, refl, List, [], ◌∷◌, ◌++◌, �
 use Rattle.shortest.specs.Shortest.{shortest, uniform, all}
 use Rattle.rasters.specs.Raster.{pixel}
 use Rattle.morton.specs.Code.{gathered}
-use Rattle.pbm.specs.Reading.{past_comment, past_blanks, blank, past_blank, past_digits, number, size_from, is_plain, is_header, only_cells, cells, picture}
-use Rattle.printing.specs.Lines.{digits, line, lines, printed, refused_line}
+use Rattle.pbm.specs.Reading.{past_comment, past_blanks, blank, past_blank, past_digits, number, size_from, is_plain, is_header, picture}
+use Rattle.printing.specs.Lines.{digits, line, printed, refused_line}
 
 -- 1100, 1101, 0011, 0011, each with LF
 abbrev rows : List ℕ
@@ -47,5 +47,5 @@ printed_all [] = []
 printed_all (t ∷ ts) = printed t ∷ printed_all ts
 
 cases : printed_all texts ≡ seven ∷ seven ∷ refused_line ∷ refused_line ∷ refused_line ∷ (48 ∷ 32 ∷ 48 ∷ 32 ∷ 49 ∷ 10 ∷ []) ∷ refused_line ∷ []
-unfolding picture past_comment past_blanks blank past_blank past_digits number size_from is_plain is_header only_cells cells digits line lines shortest uniform all pixel gathered
+unfolding picture past_comment past_blanks blank past_blank past_digits number size_from is_plain is_header digits line shortest uniform all pixel gathered
 cases = refl

@@ -1,4 +1,5 @@
 pub mod Lines
+pub mod Written
 pub mod Demands
 pub mod Cases
 pub mod Laws

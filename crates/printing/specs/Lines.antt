@@ -1,5 +1,5 @@
 -- The lines that are printed of a list: for each leaf its code in base 4 with n digits, its level and its colour.
-use Rattle.std.specs.Prelude.{cond, List, [], ◌∷◌, ◌++◌, ℕ, zero, suc, ◌+◌, ◌/◌, ◌%◌, ltb, eqb}
+use Rattle.std.specs.Prelude.{cond, List, [], ◌∷◌, ◌++◌, ℕ, zero, suc, ◌+◌, ◌/◌, ◌%◌, ltb, eqb, flat_map}
 use Rattle.refusal.specs.Answer.{Answer, gives, refuses}
 use Rattle.tiling.specs.Leaf.{code_of, level_of, colour_of}
 use Rattle.shortest.specs.Shortest.{shortest}
@@ -37,9 +37,8 @@ line n w =
     ++ numeral 10 (decimals (level_of w)) (level_of w) space
     ++ numeral 10 (decimals (colour_of w)) (colour_of w) new_line
 
-unfoldable pub lines : ℕ → List ℕ → List ℕ
-lines n [] = []
-lines n (w ∷ ws) = line n w ++ lines n ws
+abbrev pub lines : ℕ → List ℕ → List ℕ
+lines n ws = flat_map (line n) ws
 
 -- `refused 11`
 abbrev pub refused_line : List ℕ

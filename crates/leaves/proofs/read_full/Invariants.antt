@@ -2,8 +2,8 @@
 use Rattle.std.proofs.Common.{length, ◌-◌, ◌≤◌}
 use Rattle.leaves.proofs.read_full.Given as goal
 
-abbrev pub invariant-loop-got : goal.invariant-loop-got
-invariant-loop-got g l = l.got ≤ length l.text
+abbrev pub invariant-loop-more : goal.invariant-loop-more
+invariant-loop-more g l = l.got ≤ length l.text
 
-abbrev pub decreases-loop-got : goal.decreases-loop-got
-decreases-loop-got g l = length l.text - l.got
+abbrev pub decreases-loop-more : goal.decreases-loop-more
+decreases-loop-more g l = length l.text - l.got

@@ -1,15 +1,16 @@
 -- A text is read exactly if it is a picture, and then as that picture.
-use Rattle.std.specs.Prelude.{◌≡◌, refl, Bool, true, false, ◌||◌, not, cond, List, [], ◌∷◌, ◌++◌, ◌⊎◌, ℕ, zero, suc, ◌+◌, ◌*◌, ◌-◌, ◌^◌, ◌<◌, eqb, leb, length, drop}
+use Rattle.std.specs.Prelude.{◌≡◌, refl, Bool, true, false, ◌||◌, not, cond, List, [], ◌∷◌, ◌++◌, ◌⊎◌, ℕ, zero, suc, ◌+◌, ◌*◌, ◌-◌, ◌^◌, ◌<◌, eqb, leb, length, drop, map, filter}
 use Rattle.std.proofs.Common.{sym, ap, ap₂, ◌∙◌, subst, append_assoc, inl, inr, ⊎_elim, arith, eqb-true, ne_eqb, leb-true}
 use Rattle.std.proofs.lemmas.Bool.{false≢true, not-true}
 use Rattle.std.proofs.Math.Nat.{one-le-pow}
+use Rattle.std.specs.List.{list_all}
 use Rattle.refusal.specs.Answer.{Answer, gives, refuses}
 use Rattle.tiling.specs.Laws.Tests.{and_both, both_and, or_either}
 use Rattle.pbm.specs.Bytes.{is_space, ends_line, is_digit, is_cell, hash, zero_digit}
 use Rattle.pbm.specs.Reading.{past_comment, past_blanks, blank, past_blank, past_digits, number, past_field, is_field, field, size_from, size_of_side, is_plain, at_width, at_height, at_cells, size, only_cells, cells, picture}
-use Rattle.pbm.specs.Picture.{every, Comment, Blank, Blanks, decimal, Decimal, Header, Cells, IsPicture, Reads, Picture}
+use Rattle.pbm.specs.Picture.{Comment, Blank, Blanks, decimal, Decimal, Header, Cells, IsPicture, Reads, Picture}
 use Rattle.pbm.specs.Laws.Text.{comment_past}
-use Rattle.pbm.specs.Laws.Header.{all-header}
+use Rattle.pbm.specs.Laws.Header.{all-header, plain-drop}
 use Rattle.pbm.specs.Laws.Picture.{reads_picture, Parts, picture_parts, read_or_refused}
 
 -- a digit is neither white space nor the beginning of a comment
@@ -25,8 +26,8 @@ space_apart b e = ne_eqb b hash (λ q. false≢true (sym (ap is_space q) ∙ e))
 
 -- ---- white space in front of u is passed
 
-past_comment_lem : (body : List ℕ) (end : ℕ) (u : List ℕ) → every (λ b. not (ends_line b)) body ≡ true → ends_line end ≡ true → past_comment (body ++ end ∷ u) ≡ u
-unfolding past_comment every
+past_comment_lem : (body : List ℕ) (end : ℕ) (u : List ℕ) → list_all (λ b. not (ends_line b)) body ≡ true → ends_line end ≡ true → past_comment (body ++ end ∷ u) ≡ u
+unfolding past_comment
 past_comment_lem [] end u w e = rw e
 past_comment_lem (b ∷ t) end u w e =
     let q = and_both (not (ends_line b)) _ w in
@@ -67,16 +68,16 @@ blank_digit b e = go (is_digit b) refl
     go false d = d
     go true d = let a = digit_apart b d in absurd (false≢true (sym (ap₂ ◌||◌ a.0 a.1) ∙ e))
 
-digits_gone : (d u : List ℕ) (v : ℕ) → every is_digit d ≡ true → blank u ≡ true → (past_digits (d ++ u) ≡ u) × (number v (d ++ u) ≡ decimal v d)
-unfolding past_digits number every decimal blank
+digits_gone : (d u : List ℕ) (v : ℕ) → list_all is_digit d ≡ true → blank u ≡ true → (past_digits (d ++ u) ≡ u) × (number v (d ++ u) ≡ decimal v d)
+unfolding past_digits number decimal blank
 digits_gone [] [] v e h = absurd (false≢true h)
 digits_gone [] (b ∷ u) v e h = rw (blank_digit b h) (refl, refl)
 digits_gone (b ∷ d) u v e h =
     let q = and_both (is_digit b) _ e in
     rw q.0 (digits_gone d u (10 * v + (b - zero_digit)) q.1 h)
 
-digits_stay : (d u : List ℕ) → 0 < length d → every is_digit d ≡ true → past_blanks false (d ++ u) ≡ d ++ u
-unfolding past_blanks every
+digits_stay : (d u : List ℕ) → 0 < length d → list_all is_digit d ≡ true → past_blanks false (d ++ u) ≡ d ++ u
+unfolding past_blanks
 digits_stay [] u h e = absurd (omega arith)
 digits_stay (b ∷ d) u h e = let a = digit_apart b (and_both (is_digit b) _ e).0 in rw (a.0, a.1)
 
@@ -95,7 +96,6 @@ cell_digit : (b : ℕ) → is_cell b ≡ true → is_digit b ≡ true
 cell_digit b e = ⊎_elim (λ x. rw (eqb-true b 48 x)) (λ x. rw (eqb-true b 49 x)) (or_either (eqb b 48) (eqb b 49) e)
 
 cells_read : {t l : List ℕ} → Cells t l → (only_cells t ≡ true) × (cells t ≡ l)
-unfolding only_cells cells
 cells_read Cells.none = (refl, refl)
 cells_read (Cells.space e r) = rw e (cells_read r)
 cells_read (Cells.cell {b = b} e r) = let q = cells_read r in rw ((digit_apart b (cell_digit b e)).0, e) (q.0, ap (λ l. (b - zero_digit) ∷ l) q.1)
@@ -153,26 +153,26 @@ module _ (t : List ℕ) (p : Picture) (i : IsPicture t p) where
 
 -- ---- what is read is a picture
 
-digits_front : (u : List ℕ) (v : ℕ) → (d : List ℕ) × (every is_digit d ≡ true) × (u ≡ d ++ past_digits u) × (number v u ≡ decimal v d)
-unfolding past_digits number every decimal
+digits_front : (u : List ℕ) (v : ℕ) → (d : List ℕ) × (list_all is_digit d ≡ true) × (u ≡ d ++ past_digits u) × (number v u ≡ decimal v d)
+unfolding past_digits number decimal
 digits_front [] v = ([], refl, refl, refl)
 digits_front (b ∷ u) v = go (is_digit b) refl (digits_front u (10 * v + (b - zero_digit)))
   where
-    go : (x : Bool) → is_digit b ≡ x → ((d : List ℕ) × (every is_digit d ≡ true) × (u ≡ d ++ past_digits u) × (number (10 * v + (b - zero_digit)) u ≡ decimal (10 * v + (b - zero_digit)) d))
-        → (d : List ℕ) × (every is_digit d ≡ true) × (b ∷ u ≡ d ++ cond x (past_digits u) (b ∷ u)) × (cond x (number (10 * v + (b - zero_digit)) u) v ≡ decimal v d)
+    go : (x : Bool) → is_digit b ≡ x → ((d : List ℕ) × (list_all is_digit d ≡ true) × (u ≡ d ++ past_digits u) × (number (10 * v + (b - zero_digit)) u ≡ decimal (10 * v + (b - zero_digit)) d))
+        → (d : List ℕ) × (list_all is_digit d ≡ true) × (b ∷ u ≡ d ++ cond x (past_digits u) (b ∷ u)) × (cond x (number (10 * v + (b - zero_digit)) u) v ≡ decimal v d)
     go true e (d, a, q, n) = (b ∷ d, both_and _ _ e a, ap (λ x. b ∷ x) q, n)
     go false e r = ([], refl, refl, refl)
 
 comment_front : (y : List ℕ) (c : ℕ) (r : List ℕ) → past_comment y ≡ c ∷ r
-    → (body : List ℕ) × (end : ℕ) × (every (λ b. not (ends_line b)) body ≡ true) × (ends_line end ≡ true) × (y ≡ body ++ end ∷ (c ∷ r))
-unfolding past_comment every
-comment_front [] c r e = let z : ◌≡◌ {A = ℕ} 0 1 = cc in absurd (omega arith)
+    → (body : List ℕ) × (end : ℕ) × (list_all (λ b. not (ends_line b)) body ≡ true) × (ends_line end ≡ true) × (y ≡ body ++ end ∷ (c ∷ r))
+unfolding past_comment
+comment_front [] c r e = cc
 comment_front (b ∷ y) c r e = go (ends_line b) refl (comment_front y c r) e
   where
     go : (x : Bool) → ends_line b ≡ x
-        → (past_comment y ≡ c ∷ r → (body : List ℕ) × (end : ℕ) × (every (λ b. not (ends_line b)) body ≡ true) × (ends_line end ≡ true) × (y ≡ body ++ end ∷ (c ∷ r)))
+        → (past_comment y ≡ c ∷ r → (body : List ℕ) × (end : ℕ) × (list_all (λ b. not (ends_line b)) body ≡ true) × (ends_line end ≡ true) × (y ≡ body ++ end ∷ (c ∷ r)))
         → cond x y (past_comment y) ≡ c ∷ r
-        → (body : List ℕ) × (end : ℕ) × (every (λ b. not (ends_line b)) body ≡ true) × (ends_line end ≡ true) × (b ∷ y ≡ body ++ end ∷ (c ∷ r))
+        → (body : List ℕ) × (end : ℕ) × (list_all (λ b. not (ends_line b)) body ≡ true) × (ends_line end ≡ true) × (b ∷ y ≡ body ++ end ∷ (c ∷ r))
     go true q f h = ([], b, refl, q, ap (λ x. b ∷ x) h)
     go false q f h = let g = f h in (b ∷ g.0, g.1, both_and _ _ (ap not q) g.2, g.3, ap (λ x. b ∷ x) g.4)
 
@@ -182,14 +182,14 @@ Front x u = ((blank x ≡ false) × (x ≡ u)) ⊎ ((s : List ℕ) × Blanks s �
 
 -- a comment goes on, and then the same
 abbrev Within : List ℕ → List ℕ → Type 0
-Within x u = (body : List ℕ) × (end : ℕ) × (z : List ℕ) × (every (λ b. not (ends_line b)) body ≡ true) × (ends_line end ≡ true) × (x ≡ body ++ end ∷ z) × Front z u
+Within x u = (body : List ℕ) × (end : ℕ) × (z : List ℕ) × (list_all (λ b. not (ends_line b)) body ≡ true) × (ends_line end ≡ true) × (x ≡ body ++ end ∷ z) × Front z u
 
 -- what stands before the rest in the front of a text that begins with one blank
 after_blank : {s z u : List ℕ} → Blank s → Front z u → Front (s ++ z) u
 after_blank {s} {z} {u} b (inl q) = inr (s, Blanks.one b, ap (λ x. s ++ x) q.1)
 after_blank {s} {z} {u} b (inr (t, r, q)) = inr (s ++ t, Blanks.more b r, ap (λ x. s ++ x) q ∙ sym (append_assoc s t u))
 
-comment_whole : (body : List ℕ) (end : ℕ) → every (λ b. not (ends_line b)) body ≡ true → ends_line end ≡ true → Blank (hash ∷ (body ++ end ∷ []))
+comment_whole : (body : List ℕ) (end : ℕ) → list_all (λ b. not (ends_line b)) body ≡ true → ends_line end ≡ true → Blank (hash ∷ (body ++ end ∷ []))
 comment_whole body end w e = Blank.comment (record { body = body; end = end; is = refl; within = w; ends = e })
 
 abbrev FrontOf : Bool → List ℕ → List ℕ → Type 0
@@ -197,8 +197,8 @@ FrontOf false x u = Front x u
 FrontOf true x u = Within x u
 
 blanks_front : (m : Bool) (x : List ℕ) (c : ℕ) (r : List ℕ) → past_blanks m x ≡ c ∷ r → FrontOf m x (c ∷ r)
-unfolding past_blanks every blank
-blanks_front m [] c r e = let z : ◌≡◌ {A = ℕ} 0 1 = cc in absurd (omega arith)
+unfolding past_blanks blank
+blanks_front m [] c r e = cc
 blanks_front true (b ∷ x) c r e = go (ends_line b) refl (blanks_front false x c r) (blanks_front true x c r) e
   where
     go : (y : Bool) → ends_line b ≡ y → (past_blanks false x ≡ c ∷ r → Front x (c ∷ r)) → (past_blanks true x ≡ c ∷ r → Within x (c ∷ r))
@@ -222,19 +222,13 @@ field_front : (x : List ℕ) → is_field x ≡ true → 0 < field x → (s : Li
 unfolding decimal
 field_front x e h = go (digits_front (past_blanks false x) 0)
   where
-    go : ((d : List ℕ) × (every is_digit d ≡ true) × (past_blanks false x ≡ d ++ past_field x) × (field x ≡ decimal 0 d))
+    go : ((d : List ℕ) × (list_all is_digit d ≡ true) × (past_blanks false x ≡ d ++ past_field x) × (field x ≡ decimal 0 d))
         → (s : List ℕ) × (d : List ℕ) × Blanks s × Decimal (field x) d × (x ≡ s ++ (d ++ past_field x))
     go ([], a, q, n) = absurd (omega arith)
     go (b ∷ d, a, q, n) = ⊎_elim
         (λ w. absurd (false≢true (sym w.0 ∙ (and_both (blank x) _ e).0)))
         (λ w. (w.0, b ∷ d, w.1, record { some = omega arith; digits = a; is = sym n }, w.2))
         (blanks_front false x b (d ++ past_field x) q)
-
-plain_front : (t : List ℕ) → is_plain t ≡ true → t ≡ 80 ∷ 49 ∷ drop 2 t
-unfolding is_plain
-plain_front [] e = absurd (false≢true e)
-plain_front (p ∷ []) e = absurd (false≢true e)
-plain_front (p ∷ q ∷ t) e = let k = and_both (eqb p 80) (eqb q 49) e in ap₂ (λ x y. x ∷ y ∷ t) (eqb-true p 80 k.0) (eqb-true q 49 k.1)
 
 -- one blank, if something follows it
 blank_front : (y : List ℕ) → blank y ≡ true → 0 < length (past_blank y) → (s : List ℕ) × Blank s × (y ≡ s ++ past_blank y)
@@ -254,11 +248,10 @@ blank_front (b ∷ y) e h = go (eqb b hash) refl h
     go false q k = (b ∷ [], Blank.byte (⊎_elim (λ x. x) (λ x. absurd (false≢true (sym q ∙ x))) (or_either (is_space b) (eqb b hash) e)), refl)
 
 cells_front : (x : List ℕ) → only_cells x ≡ true → Cells x (cells x)
-unfolding only_cells cells
 cells_front [] e = Cells.none
 cells_front (b ∷ x) e = let k = and_both (is_space b || is_cell b) _ e in go (is_space b) refl (cells_front x k.1) k.0
   where
-    go : (y : Bool) → is_space b ≡ y → Cells x (cells x) → (is_space b || is_cell b) ≡ true → Cells (b ∷ x) (cond y (cells x) ((b - zero_digit) ∷ cells x))
+    go : (y : Bool) → is_space b ≡ y → Cells x (cells x) → (is_space b || is_cell b) ≡ true → Cells (b ∷ x) (map (λ c. c - zero_digit) (cond (not y) (b ∷ filter (λ c. not (is_space c)) x) (filter (λ c. not (is_space c)) x)))
     go true q c k = Cells.space q c
     go false q c k = Cells.cell (⊎_elim (λ z. absurd (false≢true (sym q ∙ z))) (λ z. z) (or_either (is_space b) (is_cell b) k)) c
 
@@ -273,7 +266,6 @@ size_from_side (suc more) n v h = go (eqb v (2 ^ n)) refl (size_from_side more (
     go false q f k = f (omega arith)
 
 some_cells : (x : List ℕ) → 0 < length (cells x) → 0 < length x
-unfolding cells
 some_cells [] h = h
 some_cells (b ∷ x) h = omega arith
 
@@ -300,7 +292,7 @@ module _ (t : List ℕ) (p : Picture) (e : picture t ≡ gives p) where
 
   from_parts : t ≡ (80 ∷ 49 ∷ (wide.0 ++ (wide.1 ++ (high.0 ++ (high.1 ++ last.0))))) ++ at_cells t
   from_parts =
-      plain_front t parts.headers.plain
+      plain-drop t parts.headers.plain
       ∙ ap (λ x. 80 ∷ 49 ∷ x) (wide.4 ∙ ap (λ x. wide.0 ++ (wide.1 ++ x)) (high.4 ∙ ap (λ x. high.0 ++ (high.1 ++ x)) last.2))
       ∙ simp append_assoc
 

@@ -1,39 +1,30 @@
 -- `printing::leaves` meets its contract: the cells that were read are the raster whose list is written, and its lines are those of that list.
-use Rattle.printing.proofs.leaves.Goals.{In-Size, After-area-whole, After-write-count}
+use Rattle.printing.proofs.leaves.Goals.{In-Ok, After-area-whole, After-write-count}
 use Rattle.std.proofs.Math.Path.{◌≡◌, ◌∙◌}
 use Rattle.std.proofs.Common.{sym, ap, arith, length-take-le, ◌≤◌, ◌^◌, take, length, drop, ◌++◌}
 use Rattle.rasters.specs.Raster.{pixel}
 use Rattle.printing.specs.Lines.{printed_of, lines}
 use Rattle.refusal.specs.Answer.{gives}
 use Rattle.pbm.specs.Laws.Header.{few_cells}
-use Rattle.pbm.specs.Laws.Picture.{picture-whole, given_picture, refused_picture, front}
+use Rattle.pbm.specs.Laws.Picture.{picture-whole, given_picture, front}
 use Rattle.pbm.specs.Reading.{picture}
 use Rattle.pbm.specs.Picture.{Picture}
 use Rattle.shortest.specs.Shortest.{shortest}
-use Rattle.pbm.specs.Answers.{sized}
 use Rattle.shortest.specs.Laws.Part.{shortest-size}
 use Rattle.printing.proofs.leaves.Goals as goal
 
-pub returns-in_default : goal.returns-in_default
-returns-in_default c =
-    let e = ap printed_of (refused_picture (picture c.args.text.now) _ _ (sym (ap sized c.in_default.is) ∙ c.read-found.ensures.answered)) in
-    rw e (record {
-      counted = c.put_text.ensures.counted;
-      left = c.put_text.ensures.left;
-    })
-
 -- the picture that was read
-shown : (c : In-Size) → (p : Picture) × (picture c.args.text.now ≡ gives p) × (c.in-Size.n ≡ p.of_size)
-shown c = given_picture _ _ (sym (ap sized c.in-Size.is) ∙ c.read-found.ensures.answered)
+shown : (c : In-Ok) → (p : Picture) × (picture c.args.text.now ≡ gives p) × (c.in-Ok.n ≡ p.of_size)
+shown c = given_picture _ _ c.in-Ok.ensures.answered
 
 pub area-whole-requires : goal.area-whole-requires
 area-whole-requires c = let s = shown c in omega (arith, s.2, (picture-whole _ s.0 s.1).sized)
 
 -- its cells stand at the front of the array
-taken : (c : After-area-whole) → (c.area-whole.result ≤ length c.read-found.new.cells) × (take c.area-whole.result c.read-found.new.cells ≡ (shown (goal.at.After-area-whole c).In-Size).0.of_cells)
+taken : (c : After-area-whole) → (c.area-whole.result ≤ length c.read.new.cells) × (take c.area-whole.result c.read.new.cells ≡ (shown (goal.at.After-area-whole c).In-Ok).0.of_cells)
 taken c =
-    let s = shown (goal.at.After-area-whole c).In-Size in
-    front s.0.of_cells _ _ _ (c.area-whole.ensures.is ∙ ap (λ n. 4 ^ n) s.2 ∙ sym (picture-whole _ s.0 s.1).all) (rw s.1 at c.read-found.ensures.left)
+    let s = shown (goal.at.After-area-whole c).In-Ok in
+    front s.0.of_cells _ _ _ (c.area-whole.ensures.is ∙ ap (λ n. 4 ^ n) s.2 ∙ sym (picture-whole _ s.0 s.1).all) (rw s.1 at c.read.ensures.left)
 
 pub slice_bounds-cells-end : goal.slice_bounds-cells-end
 slice_bounds-cells-end c = (taken (goal.at.slice_bounds-cells-end c).After-area-whole).0
@@ -43,40 +34,34 @@ slice_bounds-write-end c = sym (length-take-le _ _ (taken (goal.at.slice_bounds-
 
 pub write-count-requires : goal.write-count-requires
 write-count-requires c =
-    let s = shown (goal.at.write-count-requires c).In-Size in
+    let s = shown (goal.at.write-count-requires c).In-Ok in
     let w = picture-whole _ s.0 s.1 in
-    let n = c.in-Size.n in
+    let n = c.in-Ok.n in
     record {
       rastered = record { size = omega (arith, s.2, w.sized); whole = length-take-le _ _ (taken (goal.at.write-count-requires c).After-area-whole).0 ∙ c.area-whole.ensures.is };
-      fits = omega (arith, shortest-size (pixel n (take c.area-whole.result c.read-found.new.cells)) n 0, few_cells n (omega (arith, s.2, w.sized)), c.no_leaves-list.ensures);
+      fits = omega (arith, shortest-size (pixel n (take c.area-whole.result c.read.new.cells)) n 0, few_cells n (omega (arith, s.2, w.sized)));
     }
 
 -- and its list at the front of the other
-listed : (c : After-write-count) → let n = c.in-Size.n in
-    (c.write-count.result ≤ length c.write-count.new.out) × (take c.write-count.result c.write-count.new.out ≡ shortest (pixel n (shown (goal.at.After-write-count c).In-Size).0.of_cells) n 0)
+listed : (c : After-write-count) → let n = c.in-Ok.n in
+    (c.write-count.result ≤ length c.write-count.new.out) × (take c.write-count.result c.write-count.new.out ≡ shortest (pixel n (shown (goal.at.After-write-count c).In-Ok).0.of_cells) n 0)
 listed c =
-    let n = c.in-Size.n in
+    let n = c.in-Ok.n in
     let w = front _ _ _ _ c.write-count.ensures.counted c.write-count.ensures.left in
     (w.0, w.1 ∙ ap (λ x. shortest (pixel n x) n 0) (taken (goal.at.After-write-count c).After-area-whole).1)
 
-pub slice_bounds-list-end : goal.slice_bounds-list-end
-slice_bounds-list-end c = (listed (goal.at.slice_bounds-list-end c).After-write-count).0
-
-pub slice_bounds-put_lines-end-2 : goal.slice_bounds-put_lines-end-2
-slice_bounds-put_lines-end-2 c = sym (length-take-le _ _ (listed (goal.at.slice_bounds-put_lines-end-2 c).After-write-count).0)
-
 pub put_lines-requires : goal.put_lines-requires
 put_lines-requires c =
-    let s = shown (goal.at.put_lines-requires c).In-Size in
+    let s = shown (goal.at.put_lines-requires c).In-Ok in
     let w = picture-whole _ s.0 s.1 in
-    let n = c.in-Size.n in
+    let n = c.in-Ok.n in
     (omega (arith, s.2, w.sized), omega (arith, ap length (listed (goal.at.put_lines-requires c).After-write-count).1, shortest-size (pixel n s.0.of_cells) n 0, few_cells n (omega (arith, s.2, w.sized)), c.well_formed))
 
 pub returns : goal.returns
 returns c =
     let a = c.args in
-    let s = shown (goal.at.returns c).In-Size in
-    let n = c.in-Size.n in
+    let s = shown (goal.at.returns c).In-Ok in
+    let n = c.in-Ok.n in
     let e = ap (lines n) (listed (goal.at.returns c).After-write-count).1 ∙ ap (λ m. lines m (shortest (pixel m s.0.of_cells) m 0)) s.2 ∙ sym (ap printed_of s.1) in
     record {
       counted = c.put_lines.ensures.counted ∙ ap length e;

@@ -1,49 +1,24 @@
--- `printing::lines::put_lines` meets its contract. The loop keeps: with the lines of the leaves from i on stored from `at` on, the memory is as it
--- is to be.
-use Rattle.std.proofs.Common.{refl, length, drop, sym, ap, arith, length-append, ◌+◌}
-use Rattle.std.proofs.Math.Path.{◌∙◌}
-use Rattle.std.proofs.Math.ListN.{get_or}
-use Rattle.std.proofs.lemmas.List.Edits.{sets}
-use Rattle.shortest.specs.Laws.Stores.{sets-append, sets_front}
-use Rattle.printing.specs.Laws.Lines.{line-length, lines_more, lines_end, lines-length}
+-- `printing::lines::put_lines` meets its contract: each line stands where the one before it ends.
+use Rattle.std.proofs.Common.{◌≡◌, ◌+◌, [], ◌++◌, length, take, sym, ap, ◌∙◌, arith, length-take-le, get_or}
+use Rattle.std.proofs.lemmas.List.{take_more, flat_map_more}
 use Rattle.printing.specs.Lines.{line, lines}
+use Rattle.printing.specs.Laws.Lines.{lines-length}
+use Rattle.printing.specs.Laws.Written.{written_more, written_room}
 use Rattle.printing.proofs.lines.put_lines.Goals as goal
 
-pub loop-i-init : goal.loop-i-init
-loop-i-init c = (omega arith, refl, omega arith, omega arith, refl)
-
 pub put_line-at-requires : goal.put_line-at-requires
-put_line-at-requires c = (c.requires.0, omega (arith, c.requires.1, c.loop-i.invariant.1, c.loop-i-test.true))
+put_line-at-requires c =
+    let k = c.loop-leaf in
+    let i = k.leaf-index in
+    let t = take i c.args.list.now in
+    let h : length t ≡ i = length-take-le _ _ (omega arith) in
+    let l = lines-length c.args.n t c.requires.0 in
+    (c.requires.0, omega (arith, written_room k.invariant (omega (arith, l, h)), l, h))
 
-pub overflow_add-i : goal.overflow_add-i
-overflow_add-i c = omega arith
-
-pub loop-i-smaller : goal.loop-i-smaller
-loop-i-smaller c = omega arith
-
-pub loop-i-preserved : goal.loop-i-preserved
-loop-i-preserved c =
-    let k = c.loop-i in
-    let a = c.args in
-    let p = c.put_line-at in
-    let w = get_or a.list.now k.i 0 in
-    let e = lines_more a.n a.list.now k.i c.loop-i-test.true in
-    let r = lines a.n (drop (k.i + 1) a.list.now) in (
-      omega arith,
-      p.auto.out ∙ k.invariant.1,
-      omega (arith, p.ensures.next, line-length a.n w c.requires.0),
-      omega (arith, p.ensures.next, ap length e, length-append (line a.n w) r),
-      ap (λ o. sets o p.result r) p.ensures.left ∙ sets-append (line a.n w) r k.out k.at p.result p.ensures.next ∙ ap (sets k.out k.at) (sym e) ∙ k.invariant.4,
-    )
-
-pub shape_of-out : goal.shape_of-out
-shape_of-out c = c.loop-i.invariant.1
-
-pub returns : goal.returns
-returns c =
-    let k = c.loop-i in
-    let a = c.args in
-    let e = lines_end a.n a.list.now k.i c.loop-i-test.false in record {
-      counted = omega (arith, ap length e);
-      left = ap (sets k.out k.at) (sym e) ∙ k.invariant.4 ∙ sets_front (lines a.n a.list.now) a.out.now (omega (arith, lines-length a.n a.list.now c.requires.0, c.requires.1));
-    }
+pub loop-leaf-preserved : goal.loop-leaf-preserved
+loop-leaf-preserved c =
+    let n = c.args.n in
+    let l = c.args.list.now in
+    let i = c.loop-leaf.leaf-index in
+    let e : lines n (take (i + 1) l) ≡ lines n (take i l) ++ line n (get_or l i 0) = ap (lines n) (take_more l i 0 c.loop-leaf-test.true) ∙ sym (flat_map_more (line n) [] (take i l) (get_or l i 0)) in
+    rw e (written_more c.loop-leaf.invariant c.put_line-at.ensures)

@@ -1,14 +1,8 @@
--- `printing::lines::put_lines` meets its contract. The loop keeps: with the lines of the leaves from i on stored from `at` on, the memory is as it
--- is to be.
-use Rattle.std.proofs.Math.Path.{◌≡◌}
-use Rattle.std.proofs.Common.{◌+◌, ◌*◌, ◌-◌, ◌≤◌, length, drop}
-use Rattle.std.proofs.lemmas.List.Edits.{sets}
+-- `printing::lines::put_lines` meets its contract. The loop keeps: the lines of the leaves so far are written.
+use Rattle.std.proofs.Common.{take}
 use Rattle.printing.specs.Lines.{lines}
+use Rattle.printing.specs.Written.{Written}
 use Rattle.printing.proofs.lines.put_lines.Given as goal
 
--- LOOPS [[["loop", "loop-i"], ["out", "n", "list", "at", "i"]]]
-abbrev pub invariant-loop-i : goal.invariant-loop-i
-invariant-loop-i l = (l.i ≤ length l.list) × (length l.out ≡ length l.initial.out) × (l.at ≤ 16 * l.i) × (l.at + length (lines l.n (drop l.i l.list)) ≡ length (lines l.n l.list)) × (sets l.out l.at (lines l.n (drop l.i l.list)) ≡ sets l.initial.out 0 (lines l.n l.list))
-
-abbrev pub decreases-loop-i : goal.decreases-loop-i
-decreases-loop-i l = length l.list - l.i
+abbrev pub invariant-loop-leaf : goal.invariant-loop-leaf
+invariant-loop-leaf l = Written (lines l.n (take l.leaf-index l.list)) l.initial.out l.out l.at
