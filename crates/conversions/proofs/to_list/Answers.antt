@@ -17,6 +17,6 @@ write-requires c =
     let is : c.in_ok-whole.whole ≡ 4 ^ n = search rules in
     let fits : length (shortest (pixel n cells) n 0) ≤ length out = elim c.if-out-whole.branch [
       | then-out-whole+else-out-leaves w ↦ omega arith
-      | else-out-whole w ↦ always_fits (pixel n cells) (coloured n cells c.type_inv.cells) n (omega arith) _ (omega arith)
+      | else-out-whole w ↦ always_fits (pixel n cells) (coloured n cells (λ j. (c.type_inv.cells j).fits)) n (omega arith) _ (omega arith)
     ] in
     record { rastered = record { size = omega arith; whole = whole }; fits = fits }
