@@ -81,6 +81,7 @@ impl<'a> Filler<'a> {
     }
 
     // Fills a block with the colours of the map. Its first leaf is sought from a hint.
+    #[tactic(auto, using(crate::specs::Laws::Blocks::walk_spans))]
     fn walk(&self, hint: usize, cells: &mut [u8], block: Block)
         requires { Square self.now.map.n (length cells.old) block.row block.column block.level }
         ensures { Rows self.now.map.n (cell_at self.now.map.list.now) block.row block.column (2 ^ block.level) (2 ^ block.level) cells.old cells.new }

@@ -15,6 +15,10 @@ use Rattle.morton.specs.Laws.Square.{stays}
 use Rattle.tiling.specs.Map.{colour_at}
 use Rattle.probe.specs.Seen.{Covers}
 use Rattle.probe.specs.Asked.{cell_at, Cell}
+use Rattle.probe.specs.Search.{Spans, Found}
+use Rattle.probe.specs.Laws.Leaf.{cell_spans, leaf_covers}
+use Rattle.tiling.specs.IsMap.{IsMap}
+use Rattle.tiling.specs.Leaf.{level_of, colour_of}
 use Rattle.tiles.specs.Tile.{Stored, codes}
 use Rattle.rasters.specs.Raster.{place_colour}
 use Rattle.rasters.specs.Blocks.{Square, Rows, Order, alone, order_of, row_of_tile, tile_cell}
@@ -85,6 +89,10 @@ module _ (n : ℕ) (l : List ℕ) (cells : ℕ) (b : Block) (w : Square n cells 
   pub walk_cell : Cell n y x
   walk_cell = record { row_in = omega (arith, w.bottom, pow_pos level); column_in = omega (arith, w.right, pow_pos level) }
 
+  -- which the list holds
+  pub walk_spans : IsMap n l → (k : ℕ) → k ≡ code y x → Spans l k
+  walk_spans m k e = rw e (cell_spans n l y x m walk_cell)
+
   -- in one leaf
   pub leaf-rows : {colour : ℕ} {before after : List ℕ} → Covers (cell_at l) y x level colour → Rows n (alone colour) y x (2 ^ level) (2 ^ level) before after
       → Rows n (cell_at l) y x (2 ^ level) (2 ^ level) before after
@@ -97,6 +105,12 @@ module _ (n : ℕ) (l : List ℕ) (cells : ℕ) (b : Block) (w : Square n cells 
 
       shown : (r c : ℕ) → y ≤ r → r < y + 2 ^ level → x ≤ c → c < x + 2 ^ level → colour ≡ cell_at l r c
       shown r c a m d e = sym (v.each r c (stays_in y r b.is.rows a m) (stays_in x c b.is.columns d e))
+
+  -- so a leaf of the level at least, found by the block's code, fills it
+  pub found_rows : IsMap n l → (k at colour : ℕ) → Found l k at → colour ≡ colour_of (get_or l at 0) → level ≤ level_of (get_or l at 0)
+      → {before after : List ℕ} → Rows n (alone colour) y x (2 ^ level) (2 ^ level) before after → k ≡ code y x
+      → Rows n (cell_at l) y x (2 ^ level) (2 ^ level) before after
+  found_rows m k at colour f c h s e = leaf-rows (leaf_covers n l y x m walk_cell at (rw e at f) level colour (sym c) h) s
 
 -- a tile
 pub tile_rows : (n : ℕ) (l : List ℕ) (cells : ℕ) (b : Block) → b.level ≡ 4 → Square n cells b.row b.column 4 → {old tile : List ℕ} → Stored old 0 256 (codes l b.code 0) tile → {before after : List ℕ}

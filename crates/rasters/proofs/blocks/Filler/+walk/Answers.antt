@@ -1,26 +1,14 @@
 -- `rasters::Filler::walk` meets its contract, by recursion over the level: a block that its first leaf covers has the leaf's colour; of any
 -- other but a tile the quarters are filled one after another.
-use Rattle.std.proofs.Common.{sym, refl, arith, length, ℕ, ◌+◌, ◌-◌, ◌^◌}
+use Rattle.std.proofs.Common.{refl, arith, rules, ℕ, ◌+◌, ◌-◌, ◌^◌}
 use Rattle.probe.specs.Asked.{cell_at}
-use Rattle.probe.specs.Laws.Leaf.{cell_spans, leaf_covers}
-use Rattle.rasters.specs.Laws.Blocks.{walk_cell, leaf-rows, four_rows, quarter_rows}
+use Rattle.rasters.specs.Laws.Blocks.{found_rows, four_rows, quarter_rows}
 use Rattle.rasters.proofs.blocks.Filler.+walk.Goals as goal
-
-pub find-at-requires : goal.find-at-requires
-find-at-requires t c =
-    let m = c.args.self.now.map in
-    let b = c.args.block in
-    rw b.is.is (cell_spans m.n m.list.now b.row b.column m.is (walk_cell m.n m.list.now _ b c.requires))
 
 pub returns-then-block-level_of : goal.returns-then-block-level_of
 returns-then-block-level_of t c =
     let m = c.args.self.now.map in
-    let b = c.args.block in
-    let s = c.requires in
-    let f = rw b.is.is at c.find-at.ensures in
-    leaf-rows m.n m.list.now (length c.args.cells.now) b s
-    (leaf_covers m.n m.list.now b.row b.column m.is (walk_cell m.n m.list.now _ b s) c.find-at.result f b.level c.colour_of.result (sym c.colour_of.ensures) (omega (arith, c.if-block-level_of.true, c.level_of.ensures)))
-    c.square.ensures
+    found_rows m.n m.list.now _ c.args.block c.requires m.is _ _ _ c.find-at.ensures c.colour_of.ensures (omega (arith, c.if-block-level_of.true, c.level_of.ensures)) c.square.ensures (search rules)
 
 pub returns : goal.returns
 returns t c =
