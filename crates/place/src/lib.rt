@@ -1,9 +1,9 @@
 // Placing: where the second map's upper left cell lies, in the first map's rows and columns. Rows grow southward, columns eastward.
 #![tactic(auto)]
 
-ghost use Rattle.std.specs.Prelude.{◌≡◌, pos, ◌<ℤ◌, cond};
+ghost use Rattle.std.specs.Prelude.{◌≡◌, ◌≤◌, pos, ◌<ℤ◌, cond, unsigned_abs};
 ghost use Rattle.refusal.specs.Read.{answered};
-ghost use Rattle.place.specs.Placing.{in1024ths, cell_side, exact, far, offsets, between, reading, on_ground, placed};
+ghost use Rattle.place.specs.Placing.{reach, in1024ths, cell_side, exact, far, offsets, between, reading, on_ground, placed};
 ghost use Rattle.place.specs.Laws.Readings.{Within};
 
 use refusal::Refusal;
@@ -112,7 +112,7 @@ fn offset(dy: i64, dx: i64) -> Result<Shift, Refusal>
 #[tactic(auto, using(crate::specs::Laws::Integers::same_no, crate::specs::Laws::Integers::same_yes), unfolding(crate::specs::Placing::between))]
 fn measured(a: Reading, b: Reading) -> Result<Shift, Refusal>
     requires first_within { Within (Ok a) }
-    requires second_within { Within (Ok b) }
+    requires second_within { (unsigned_abs b.north ≤ reach) × (unsigned_abs b.east ≤ reach) }
     ensures { answered result ≡ between a b }
 {
     if a.cell != b.cell {

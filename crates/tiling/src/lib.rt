@@ -68,26 +68,26 @@ pub fn end_of(w: u64) -> u64
     code_of(w) + morton::area(level_of(w))
 }
 
-// Where the entry w ends, if it is right in a map of size n and area `whole` after entries that end at `end`; else 0, where none ends.
-fn right_end(n: u64, whole: u64, end: u64, w: u64) -> u64
+// Where the entry w ends, if it is right in a map of size n and area `whole` after entries that end at `end`.
+fn right_end(n: u64, whole: u64, end: u64, w: u64) -> Option<u64>
     requires { (n ≤ highest) × (whole ≡ 4 ^ n) }
     ensures { result ≡ right_end n end w }
 {
     let level = level_of(w);
     if n < level {
-        return 0;
+        return None;
     }
     let area = morton::area(level);
     if code_of(w) != end {
-        return 0;
+        return None;
     }
     if whole <= end {
-        return 0;
+        return None;
     }
     if end % area != 0 {
-        return 0;
+        return None;
     }
-    end + area
+    Some(end + area)
 }
 
 // A map of size n: the list of its leaves, which is well formed.
@@ -107,11 +107,7 @@ pub fn check(n: u64, list: &[u64]) -> Result<(), usize>
     let mut end: u64 = 0;
     // the entries before i are right, and end at `end`
     for (i, w) in list.iter().enumerate() {
-        let next = right_end(n, whole, end, *w);
-        if next == 0 {
-            return Err(i);
-        }
-        end = next;
+        end = right_end(n, whole, end, *w).ok_or(i)?;
     }
     if end == whole {
         Ok(())

@@ -1,7 +1,7 @@
 -- The check accepts exactly the well formed lists.
-use Rattle.std.specs.Prelude.{◌≡◌, refl, Bool, true, false, ◌&&◌, cond, List, [], ◌∷◌, ℕ, suc, ◌%◌, ◌^◌, leb, ltb, eqb, Ok, Err}
-use Rattle.std.proofs.Math.Nat.{one-le-pow}
-use Rattle.std.proofs.Common.{arith, leb-true, eqb-true, ltb-true, le-leb, eq-eqb, lt-ltb}
+use Rattle.std.specs.Prelude.{◌≡◌, refl, Bool, true, false, ◌&&◌, cond, List, [], ◌∷◌, ℕ, suc, ◌%◌, ◌^◌, leb, ltb, eqb, Some, None, Ok, Err}
+use Rattle.std.proofs.lemmas.Option.{none-some, same_Some}
+use Rattle.std.proofs.Common.{sym, arith, leb-true, eqb-true, ltb-true, le-leb, eq-eqb, lt-ltb}
 use Rattle.tiling.specs.Leaf.{code_of, level_of, end_of}
 use Rattle.tiling.specs.WellFormed.{Right, WellFormed}
 use Rattle.tiling.specs.Check.{right_entry, right_end, checked_from, checked}
@@ -23,29 +23,29 @@ right_entry_lem n e w r =
     (eq-eqb _ _ r.aligned)
 
 -- where an entry ends that is right, and that no other ends anywhere
-pub is_right : (n e w : ℕ) → Right n e w → end_of w ≡ right_end n e w
+pub is_right : (n e w : ℕ) → Right n e w → Some (end_of w) ≡ right_end n e w
 is_right n e w r = rw (right_entry_lem n e w r) refl
 
-pub not_right : (n e w : ℕ) → (Right n e w → ⊥) → 0 ≡ right_end n e w
+pub not_right : (n e w : ℕ) → (Right n e w → ⊥) → None ≡ right_end n e w
 not_right n e w h = go (right_entry n e w) refl
   where
-    go : (b : Bool) → right_entry n e w ≡ b → 0 ≡ cond (right_entry n e w) (end_of w) 0
+    go : (b : Bool) → right_entry n e w ≡ b → None ≡ cond (right_entry n e w) (Some (end_of w)) None
     go true q = absurd (h (entry_right n e w q))
     go false q = rw q refl
 
 -- where an entry ends tells whether it is right
-pub ends_right : (n e w r : ℕ) → r ≡ right_end n e w → (r ≡ 0 → ⊥) → (right_entry n e w ≡ true) × (r ≡ end_of w)
-ends_right n e w r h k = go (right_entry n e w) refl h
+pub ends_right : (n e w r : ℕ) → Some r ≡ right_end n e w → (right_entry n e w ≡ true) × (r ≡ end_of w)
+ends_right n e w r h = go (right_entry n e w) refl h
   where
-    go : (b : Bool) → right_entry n e w ≡ b → r ≡ cond b (end_of w) 0 → (right_entry n e w ≡ true) × (r ≡ end_of w)
-    go true q x = (q, x)
-    go false q x = absurd (k x)
+    go : (b : Bool) → right_entry n e w ≡ b → Some r ≡ cond b (Some (end_of w)) None → (right_entry n e w ≡ true) × (r ≡ end_of w)
+    go true q x = (q, same_Some r (end_of w) x)
+    go false q x = absurd (none-some r (sym x))
 
-pub ends_wrong : (n e w r : ℕ) → r ≡ right_end n e w → r ≡ 0 → right_entry n e w ≡ false
-ends_wrong n e w r h k = go (right_entry n e w) refl h
+pub ends_wrong : (n e w : ℕ) → None ≡ right_end n e w → right_entry n e w ≡ false
+ends_wrong n e w h = go (right_entry n e w) refl h
   where
-    go : (b : Bool) → right_entry n e w ≡ b → r ≡ cond b (end_of w) 0 → right_entry n e w ≡ false
-    go true q x = absurd (omega (arith, one-le-pow (level_of w) 4 (omega arith)))
+    go : (b : Bool) → right_entry n e w ≡ b → None ≡ cond b (Some (end_of w)) None → right_entry n e w ≡ false
+    go true q x = absurd (none-some (end_of w) x)
     go false q x = q
 
 tiles_run : (n e i : ℕ) (l : List ℕ) → checked_from n e i l ≡ Ok tt → Run n e l (4 ^ n)
