@@ -4,6 +4,7 @@ ghost use Rattle.refusal.specs.Read.{answered};
 ghost use Rattle.lookups.specs.Lists.{list_check, cell_lookup};
 
 use refusal::Refusal;
+use tiling::Map;
 
 // A cell, by its row from the north and its column from the west, which may be negative.
 #[derive(Clone, Copy, Debug, PartialEq, Eq)]
@@ -32,5 +33,6 @@ pub fn lookup(n: u64, list: &[u64], cell: Cell) -> Result<u8, Refusal>
     if !tiling::inside(n, cell.row, cell.column) {
         return Err(Refusal::Outside);
     }
-    Ok(probe::colour_in(n, list, cell.row, cell.column))
+    let map = Map { n, list };
+    Ok(probe::colour_in(&map, cell.row, cell.column))
 }

@@ -1,27 +1,17 @@
 // The leaf of a list in which a code lies. No entry is decoded but for its code.
 ghost use Rattle.std.specs.Prelude.{◌≡◌, true, ◌≤◌};
-ghost use Rattle.morton.specs.Power.{highest};
-ghost use Rattle.tiling.specs.WellFormed.{WellFormed};
 ghost use Rattle.tiling.specs.Map.{inside, colour_in};
 ghost use Rattle.probe.specs.Search.{Spans, Found, Between, After, Before};
 
-// Its place, where it lies at or after one place and before another: by halving.
+use tiling::Map;
+
+// Its place, where it lies at or after one place and before another: the last leaf that does not begin past the code.
 fn between(list: &[u64], code: u64, from: usize, to: usize) -> usize
     requires { Between list.now code from to }
     ensures { Found list.now code result }
 {
-    let mut lo = from;
-    let mut hi = to;
-    // the leaf lies at or after lo and before hi
-    while lo + 1 < hi {
-        let middle = lo + (hi - lo) / 2;
-        if tiling::code_of(list[middle]) <= code {
-            lo = middle;
-        } else {
-            hi = middle;
-        }
-    }
-    lo
+    let ahead = list[from..to].partition_point(|w| tiling::code_of(*w) <= code);
+    from + (ahead - 1)
 }
 
 // Its place, where it lies at or after one place: by steps that double.
@@ -76,11 +66,12 @@ pub fn find(list: &[u64], code: u64, hint: usize) -> usize
     before(list, code, hint)
 }
 
-// The colour of a cell of a map of size n.
-pub fn colour_in(n: u64, list: &[u64], row: i64, column: i64) -> u8
-    requires { (n ≤ highest) × WellFormed n list.now × (inside n row column ≡ true) }
-    ensures { result ≡ colour_in n list.now row column }
+// The colour of a cell of a map.
+pub fn colour_in(map: &Map, row: i64, column: i64) -> u8
+    requires { inside map.now.n row column ≡ true }
+    ensures { result ≡ colour_in map.now.n map.now.list.now row column }
 {
-    let at = find(list, tiling::cell_code(n, row, column), list.len());
+    let list = map.list;
+    let at = find(list, tiling::cell_code(map.n, row, column), list.len());
     tiling::colour_of(list[at])
 }

@@ -15,14 +15,16 @@ is c = c.cell_code.ensures ∙ ap₂ code (ap nat_abs (back c.ranges.row)) (ap n
 
 pub find-at-requires : goal.find-at-requires
 find-at-requires c =
-    let h = inside_both c.args.n c.args.row c.args.column c.requires.2 in
+    let m = c.args.map.now in
+    let h = inside_both m.n c.args.row c.args.column c.requires in
     record {
-      size = c.args.n;
-      formed = c.requires.1;
-      inside = rw (is c) (code_inside c.args.n _ _ (omega (arith, c.requires.0)) (within-lt c.args.n c.args.row h.0) (within-lt c.args.n c.args.column h.1));
+      size = m.n;
+      formed = m.is.formed;
+      inside = rw (is c) (code_inside m.n _ _ (omega (arith, m.is.size)) (within-lt m.n c.args.row h.0) (within-lt m.n c.args.column h.1));
     }
 
 pub returns : goal.returns
 returns c =
-    c.colour_of.ensures ∙ sym (colour_inside c.args.n c.args.list.now c.args.row c.args.column c.requires.2
-    ∙ found_colour c.args.n _ c.requires.1 _ _ (rw (is (goal.at.returns c).After-cell_code) at c.find-at.ensures))
+    let m = c.args.map.now in
+    c.colour_of.ensures ∙ sym (colour_inside m.n m.list.now c.args.row c.args.column c.requires
+    ∙ found_colour m.n _ m.is.formed _ _ (rw (is (goal.at.returns c).After-cell_code) at c.find-at.ensures))
