@@ -12,6 +12,7 @@ ghost use Rattle.shortest.specs.Outcome.{written, left};
 ghost use Rattle.conversions.specs.Rasters.{raster_to_list, list_to_raster};
 
 use refusal::Refusal;
+use tiling::Map;
 
 // The number of cells of a map of size n, where a raster of this length has them.
 fn whole(n: u64, length: usize) -> Result<u64, Refusal>
@@ -50,6 +51,6 @@ pub fn to_raster(n: u64, list: &[u64], cells: &mut [u8]) -> Result<u64, Refusal>
 {
     let whole = whole(n, cells.len())?;
     tiling::check(n, list).map_err(|i| Refusal::FirstList(i as u64))?;
-    rasters::fill(n, list, cells);
+    rasters::fill(&Map { n, list }, cells);
     Ok(whole)
 }

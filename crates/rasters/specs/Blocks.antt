@@ -2,13 +2,6 @@
 use Rattle.std.specs.Prelude.{◌≡◌, List, ℕ, ◌+◌, ◌-◌, ◌*◌, ◌/◌, ◌%◌, ◌^◌, ◌<◌, ◌≤◌, get_or}
 use Rattle.morton.specs.Code.{code}
 use Rattle.morton.specs.Power.{highest}
-use Rattle.tiling.specs.WellFormed.{WellFormed}
-
--- a list and the number of cells of a raster for it
-pub record Fills (n : ℕ) (l : List ℕ) (cells : ℕ) : Type 0 where
-  pub size : n ≤ highest
-  pub formed : WellFormed n l
-  pub whole : cells ≡ 4 ^ n
 
 -- a square of the level within a raster of so many cells
 pub record Square (n cells y x level : ℕ) : Type 0 where

@@ -3,7 +3,7 @@ ghost use Rattle.std.specs.Prelude.{◌≡◌, ◌+◌, ◌^◌, ◌≤◌, leng
 ghost use Rattle.probe.specs.Asked.{cell_at};
 ghost use Rattle.tiles.specs.Tile.{Stored};
 ghost use Rattle.rasters.specs.Raster.{raster_of};
-ghost use Rattle.rasters.specs.Blocks.{Fills, Square, Rows, Order, alone, row_of_tile, tile_cell};
+ghost use Rattle.rasters.specs.Blocks.{Square, Rows, Order, alone, row_of_tile, tile_cell};
 
 use morton::{Block, Four, Spread};
 use tiling::Map;
@@ -104,14 +104,14 @@ impl<'a> Filler<'a> {
     }
 }
 
-// Fills a raster with the colours of a map of size n.
-pub fn fill(n: u64, list: &[u64], cells: &mut [u8])
-    requires { Fills n list.now (length cells.old) }
-    ensures { cells.new ≡ raster_of n list.now }
+// Fills a raster with the colours of a map.
+pub fn fill(map: &Map, cells: &mut [u8])
+    requires { length cells.old ≡ 4 ^ map.now.n }
+    ensures { cells.new ≡ raster_of map.now.n map.now.list.now }
 {
     let filler = Filler {
-        map: Map { n, list },
+        map: *map,
         order: order(&Spread::new()),
     };
-    filler.walk(0, cells, Block::whole(n));
+    filler.walk(0, cells, Block::whole(map.n));
 }

@@ -162,9 +162,6 @@ module _ (n : ℕ) (g : ℕ → ℕ → ℕ) (y x level h : ℕ) (p : 0 < level)
           ∙ s₀.outside r c f (λ i j u v. o (omega (arith, t)) (omega (arith, t)) (omega (arith, t)) (omega (arith, t)))
 
 -- ---- the whole raster
-pub whole_square : (n cells : ℕ) → n ≤ highest → cells ≡ 4 ^ n → Square n cells 0 0 n
-whole_square n cells h w = record { size = h; whole = w; bottom = omega arith; right = omega arith }
-
 pub whole-rows : (n : ℕ) (l : List ℕ) {before after : List ℕ} → Rows n (cell_at l) 0 0 (2 ^ n) (2 ^ n) before after → (i : ℕ) → i < 4 ^ n → get_or after i 0 ≡ place_colour n l i
 whole-rows n l {after = after} s i h =
     let e : i / 2 ^ n * 2 ^ n + i % 2 ^ n ≡ i = div-add-mod' i (2 ^ n) in

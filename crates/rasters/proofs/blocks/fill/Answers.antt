@@ -7,7 +7,7 @@ use Rattle.rasters.proofs.blocks.fill.Goals as goal
 
 pub returns : goal.returns
 returns c =
-    let a = c.args in
+    let m = c.args.map.now in
     let k = c.walk in
     let w = c.whole.ensures in
-    raster_by_cell a.n a.list.now k.new.cells (k.auto.cells ∙ c.requires.whole) (whole_rows_at a.n a.list.now _ _ _ w.1 w.2 w.3 k.ensures)
+    raster_by_cell m.n m.list.now k.new.cells (k.auto.cells ∙ c.requires) (whole_rows_at m.n m.list.now _ _ _ w.1 w.2 w.3 k.ensures)
