@@ -13,12 +13,6 @@ small d h = pow_mono {i = d - 1} {j = 16} (omega arith)
 pub returns-then-digits-eq0 : goal.returns-then-digits-eq0
 returns-then-digits-eq0 t c = gathered_none _ _ c.if-digits-eq0.true
 
-pub overflow_sub-digits : goal.overflow_sub-digits
-overflow_sub-digits t c = omega arith
-
-pub gather-requires : goal.gather-requires
-gather-requires t c = omega arith
-
 pub overflow_mul-result : goal.overflow_mul-result
 overflow_mul-result t c =
     let a = c.args in

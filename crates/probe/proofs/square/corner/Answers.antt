@@ -5,14 +5,8 @@ use Rattle.std.proofs.lemmas.Bool.{false≢true}
 use Rattle.probe.specs.Laws.Leaf.{cell_bits, cell_spans, leaf_covers}
 use Rattle.probe.proofs.square.corner.Goals as goal
 
-pub code_of-requires : goal.code_of-requires
-code_of-requires c = cell_bits _ _ _ _ c.args.map.now.is c.requires
-
 pub find-requires : goal.find-requires
 find-requires c = rw c.code_of.ensures (cell_spans _ _ _ _ c.args.map.now.is c.requires)
-
-pub returns-then-colour_of-colour : goal.returns-then-colour_of-colour
-returns-then-colour_of-colour c = λ e. absurd (false≢true e)
 
 pub returns : goal.returns
 returns c =

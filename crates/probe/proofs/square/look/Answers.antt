@@ -24,27 +24,11 @@ leaf : (c : After-find-at) →
     Right m.n (code_of w) w
 leaf c = found_right _ _ c.args.map.now.is.formed _ _ (found c)
 
-pub code_of-requires : goal.code_of-requires
-code_of-requires c = cell_bits _ _ _ _ c.args.map.now.is (first_cell _ _ _ _ c.requires)
-
 pub find-at-requires : goal.find-at-requires
 find-at-requires c = rw c.code_of.ensures (cell_spans _ _ _ _ c.args.map.now.is (first_cell _ _ _ _ c.requires))
 
-pub side-leaf_side-requires : goal.side-leaf_side-requires
-side-leaf_side-requires c = omega (arith, (leaf (goal.at.side-leaf_side-requires c).After-find-at).level, c.level_of-leaf_level.ensures, c.args.map.now.is.size)
-
 pub side-side-requires : goal.side-side-requires
 side-side-requires c = omega (arith, level_le _ _ _ _ c.requires, c.args.map.now.is.size)
-
-pub overflow_add-row : goal.overflow_add-row
-overflow_add-row c =
-    let a = c.args in
-    omega (arith, mod-le a.square.row c.side-leaf_side.result, cell_bits _ _ _ _ c.args.map.now.is (first_cell _ _ _ _ c.requires))
-
-pub overflow_add-column : goal.overflow_add-column
-overflow_add-column c =
-    let a = c.args in
-    omega (arith, mod-le a.square.column c.side-leaf_side.result, cell_bits _ _ _ _ c.args.map.now.is (first_cell _ _ _ _ c.requires))
 
 pub returns-then-row-leaf_side : goal.returns-then-row-leaf_side
 returns-then-row-leaf_side c =
@@ -64,9 +48,6 @@ across-requires c =
       first = leaf_covers _ _ _ _ c.args.map.now.is (first_cell _ _ _ _ p) _ (found (goal.at.across-requires c).After-find-at) _ _ (sym c.colour_of-colour.ensures) (omega (arith, c.level_of-leaf_level.ensures));
     }
     )
-
-pub returns-then-across : goal.returns-then-across
-returns-then-across c = tells_one _ _ _ _ c.colour_of-colour.result (omega (arith, c.colour_of-colour.ensures)) (c.across.ensures c.if-across.true)
 
 pub returns : goal.returns
 returns c =

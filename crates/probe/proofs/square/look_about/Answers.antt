@@ -28,14 +28,5 @@ bounds : (c : Else-row-column) →
     (bias ≤ q.row) × (bias ≤ q.column) × (q.row + 2 ^ q.level ≤ end) × (q.column + 2 ^ q.level ≤ end)
 bounds c = let q = c.args.square in inner_bounds q.row q.column (2 ^ q.level) (bias + 2 ^ c.args.map.now.n) (inner c)
 
-pub overflow_sub-within : goal.overflow_sub-within
-overflow_sub-within c = (bounds c).0
-
-pub overflow_sub-within-2 : goal.overflow_sub-within-2
-overflow_sub-within-2 c = (bounds c).1
-
-pub look-requires : goal.look-requires
-look-requires c = inner-within _ c.args.map.now.list.now _ _ _ (inner c)
-
 pub returns : goal.returns
 returns c = inner_tells _ _ _ _ _ (inner (goal.at.returns c).Else-row-column) (seen_of c.look.result) c.look.ensures

@@ -14,9 +14,6 @@ area-area-requires c = omega (arith, block_level _ _ _ _ c.args.self.is)
 four : (c : After-area-area) → let b = c.args.self in Quarters b.code b.row b.column (b.level - 1) c.side-side.result c.area-area.result
 four c = quarters _ _ _ _ _ _ c.requires c.area-area.ensures.is c.side-side.ensures.is c.args.self.is
 
-pub overflow_add-south : goal.overflow_add-south
-overflow_add-south c = omega (arith, four c)
-
 pub invariant_of-nw : goal.invariant_of-nw
 invariant_of-nw c = record { is = (four (goal.at.invariant_of-nw c).After-area-area).nw }
 
