@@ -4,7 +4,6 @@ use Rattle.std.proofs.Common.{◌-◌, ◌<◌, ◌≤◌, length}
 use Rattle.tiling.specs.WellFormed.{end_before}
 use Rattle.probe.proofs.search.after.Given as goal
 
--- LOOPS [[["loop", "loop-step"], ["list", "code", "from", "lo", "step"]]]
 abbrev pub invariant-loop-step : goal.invariant-loop-step
 invariant-loop-step l = (l.lo < length l.list) × (0 < l.step) × (end_before l.list l.lo ≤ l.code)
 

@@ -4,7 +4,6 @@ use Rattle.std.proofs.Common.{◌<◌, ◌≤◌, length}
 use Rattle.tiling.specs.WellFormed.{end_before}
 use Rattle.probe.proofs.search.before.Given as goal
 
--- LOOPS [[["loop", "loop-step"], ["list", "code", "to", "hi", "step"]]]
 abbrev pub invariant-loop-step : goal.invariant-loop-step
 invariant-loop-step l = (0 < l.hi) × (l.hi ≤ length l.list) × (0 < l.step) × (l.code < end_before l.list l.hi)
 

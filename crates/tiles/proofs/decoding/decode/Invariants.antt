@@ -6,7 +6,6 @@ use Rattle.probe.specs.Search.{Found}
 use Rattle.tiles.specs.Tile.{Stored, codes}
 use Rattle.tiles.proofs.decoding.decode.Given as goal
 
--- LOOPS [[["loop", "loop-place"], ["list", "code", "hint", "cells", "from", "end", "at", "place"]]]
 abbrev pub invariant-loop-place : goal.invariant-loop-place
 invariant-loop-place l = (l.from ≤ l.place) × (l.place ≤ l.from + 256) × (length l.cells ≡ length l.initial.cells) × Stored l.initial.cells l.from l.place (codes l.map.list.now l.code l.from) l.cells × (l.place < l.from + 256 → Found l.map.list.now (l.code + (l.place - l.from)) l.at)
 
