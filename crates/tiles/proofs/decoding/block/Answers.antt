@@ -13,18 +13,6 @@ returns-then-row-column c = beyond_stored c.args.map.now.n c.args.map.now.list.n
 lies : (c : Else-row-column) → let a = c.args in Inside a.map.now.n a.row a.column
 lies c = inside _ _ _ c.requires.0 (rw c.side-end.ensures.is at c.if-row-column.false)
 
-pub overflow_sub-row : goal.overflow_sub-row
-overflow_sub-row c = (lies c).top
-
-pub overflow_sub-column : goal.overflow_sub-column
-overflow_sub-column c = (lies c).left
-
-pub code_of-code-requires : goal.code_of-code-requires
-code_of-code-requires c =
-    let p = lies c in
-    let q : 2 ^ c.args.map.now.n ≤ 2 ^ 15 = pow_mono c.args.map.now.is.size in
-    (omega (arith, p.bottom), omega (arith, p.right))
-
 pub decode-requires : goal.decode-requires
 decode-requires c = record { inside = rw c.code_of-code.ensures (inside-codes _ c.args.map.now.list.now _ _ c.args.map.now.is.size c.requires.0 (lies (goal.at.decode-requires c).Else-row-column)); room = c.requires.1; few = c.requires.2 }
 

@@ -8,11 +8,6 @@ use Rattle.tiles.specs.Tile.{step_to}
 use Rattle.tiles.specs.Laws.Codes.{tile_cell_lem, step_small}
 use Rattle.tiles.proofs.decoding.steps.Goals as goal
 
-pub code_of-code-requires : goal.code_of-code-requires
-code_of-code-requires c =
-    let t = tile_cell_lem c.loop-j.j (omega arith) in
-    (omega (arith, c.requires, c.row_of.ensures, t), omega (arith, c.requires, c.column_of.ensures, t))
-
 -- the step, which is small
 step : (c : After-code_of-code) → let a = c.args in (c.code_of-code.result ≡ step_to a.row a.column c.loop-j.j) × (c.code_of-code.result < 1024)
 step c =

@@ -10,12 +10,3 @@ area-q-requires c = omega (arith, low _ _ _ c.requires.1)
 down : (c : After-area-q) → let b = c.args.block in Four c.args.self.now.first b.code (b.level - 1) c.area-q.result
 down c = four _ _ _ _ c.requires.0 c.area-q.ensures.is c.requires.1
 
-pub returns : goal.returns
-returns c =
-    let d = down (goal.at.returns c).After-area-q in
-    record {
-      nw = (d.nw, record { code = omega arith; level = refl });
-      ne = (d.ne, record { code = omega (arith, c.area-q.ensures.is); level = refl });
-      sw = (d.sw, record { code = omega (arith, c.area-q.ensures.is); level = refl });
-      se = (d.se, record { code = omega (arith, c.area-q.ensures.is); level = refl });
-    }
