@@ -6,7 +6,7 @@ ghost use Rattle.capi.specs.Below.{Below, itself};
 
 use refusal::Refusal;
 
-// The answer to a number that names nothing, and to a place for a pair that is too short.
+// The answer to a number that names nothing, and to a place for a pair that is too short: C has no Option.
 pub const UNNAMED: u64 = 18446744073709551615;
 
 // rule × 2^32 + number.

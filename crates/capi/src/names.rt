@@ -1,4 +1,4 @@
-// Numbers that name an operation or a direction.
+// Numbers that name an operation or a direction, for C. Functions and no `TryFrom`, for the enums and the trait are other crates'.
 ghost use Rattle.std.specs.Prelude.{◌≡◌};
 ghost use Rattle.capi.specs.Code.{operation_of, direction_of};
 

@@ -7,7 +7,8 @@ ghost use Rattle.std.specs.Prelude.{◌≡◌, ◌≤◌, length};
 use std::io;
 use std::io::Read;
 
-// Reads until the text is full, the input ends or a read fails, and says how many bytes stand in the text then.
+// Reads until the text is full, the input ends or a read fails, and says how many bytes stand in the text then. A loop of our own: no method
+// of the library without a heap keeps what came before a read that failed.
 fn read_full(input: &mut impl Read, text: &mut [u8]) -> usize
     ensures { result ≤ length text.new }
 {

@@ -48,10 +48,30 @@ impl Block {
         let (side, area) = (super::side(level), super::area(level));
         let (code, row, column) = (self.code, self.row, self.column);
         let (south, east) = (row + side, column + side);
-        let nw = Block { code, row, column, level };
-        let ne = Block { code: code + area, row, column: east, level };
-        let sw = Block { code: code + 2 * area, row: south, column, level };
-        let se = Block { code: code + 3 * area, row: south, column: east, level };
+        let nw = Block {
+            code,
+            row,
+            column,
+            level,
+        };
+        let ne = Block {
+            code: code + area,
+            row,
+            column: east,
+            level,
+        };
+        let sw = Block {
+            code: code + 2 * area,
+            row: south,
+            column,
+            level,
+        };
+        let se = Block {
+            code: code + 3 * area,
+            row: south,
+            column: east,
+            level,
+        };
         Four { nw, ne, sw, se }
     }
 }

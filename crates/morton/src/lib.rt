@@ -40,7 +40,7 @@ pub fn column_of(k: u64) -> u64
     gather(16, k)
 }
 
-// The side of a block of the level, in cells.
+// The side of a block of the level, in cells. It and `area` are a shift each: one function of both would be no shorter than either.
 pub fn side(level: u64) -> u64
     requires { level ≤ highest }
     ensures { Power 2 level result }

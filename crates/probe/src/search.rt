@@ -14,7 +14,7 @@ fn between(list: &[u64], code: u64, from: usize, to: usize) -> usize
     from + (ahead - 1)
 }
 
-// Its place, where it lies at or after one place: by steps that double.
+// Its place, where it lies at or after one place: by steps that double, of which the library has no search.
 fn after(list: &[u64], code: u64, from: usize) -> usize
     requires { After list.now code from }
     ensures { Found list.now code result }
@@ -33,7 +33,7 @@ fn after(list: &[u64], code: u64, from: usize) -> usize
     between(list, code, lo, list.len())
 }
 
-// Its place, where it lies before one place: by steps that double.
+// Its place, where it lies before one place: likewise. Steps and tests run the other way round, so the two share no more than `between`.
 fn before(list: &[u64], code: u64, to: usize) -> usize
     requires { Before list.now code to }
     ensures { Found list.now code result }

@@ -46,7 +46,8 @@ fn last_of(w: u64, code: u64, from: usize) -> usize
     from + 256
 }
 
-// Stores the colours of the 256 codes from one on, leaf by leaf.
+// Stores the colours of the 256 codes from one on, leaf by leaf. The loop ends by the place and not by the list, so an iterator over leaves
+// would need a second test, and a proof that it does not end first.
 pub fn decode(map: &Map, code: u64, hint: usize, cells: &mut [u8], from: usize)
     requires { Decodes map.now.n code from (length cells.old) }
     ensures { Stored cells.old from (from + 256) (codes map.now.list.now code from) cells.new }

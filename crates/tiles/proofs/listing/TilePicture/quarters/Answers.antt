@@ -9,4 +9,3 @@ area-q-requires c = omega (arith, low _ _ _ c.requires.1)
 
 down : (c : After-area-q) → let b = c.args.block in Four c.args.self.now.first b.code (b.level - 1) c.area-q.result
 down c = four _ _ _ _ c.requires.0 c.area-q.ensures.is c.requires.1
-
