@@ -2,14 +2,9 @@
 use Rattle.painter.specs.Laws.Table.{both_known, first_known, second_known, neither_known}
 use Rattle.painter.proofs.operations.Operation.joint.Goals as goal
 
-pub returns-then-b-lt-COLOURS : goal.returns-then-b-lt-COLOURS
-returns-then-b-lt-COLOURS c = both_known c.args.self c.args.a c.args.b _ c.if-a-lt-COLOURS.true c.if-b-lt-COLOURS.true c.combined.ensures
-
 pub returns-then-a-lt-COLOURS : goal.returns-then-a-lt-COLOURS
 returns-then-a-lt-COLOURS c = first_known c.args.self c.args.a c.args.b c.first_alone.result c.if-a-lt-COLOURS.true c.if-b-lt-COLOURS.false c.first_alone.ensures
 
 pub returns-then-b-lt-COLOURS-2 : goal.returns-then-b-lt-COLOURS-2
 returns-then-b-lt-COLOURS-2 c = second_known c.args.self c.args.a c.args.b c.second_alone.result c.if-a-lt-COLOURS.false c.if-b-lt-COLOURS-2.true c.second_alone.ensures
 
-pub returns : goal.returns
-returns c = neither_known c.args.self c.args.a c.args.b c.if-a-lt-COLOURS.false

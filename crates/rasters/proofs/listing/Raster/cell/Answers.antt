@@ -13,12 +13,6 @@ at c =
     let p = c.requires in
     (rw c.side.ensures.is (place_lt _ _ _ p.row p.column), pow-le-pow_right (omega arith) c.args.self.now.rastered.size)
 
-pub overflow_mul-i : goal.overflow_mul-i
-overflow_mul-i c = omega (arith, at c)
-
-pub overflow_add-i : goal.overflow_add-i
-overflow_add-i c = omega (arith, at c)
-
 pub bounds-self-i : goal.bounds-self-i
 bounds-self-i c = omega (arith, at (goal.at.bounds-self-i c).After-side, c.args.self.now.rastered.whole)
 
