@@ -1,5 +1,5 @@
 -- Blocks of a scene that are painted by a tile, and what that asks.
-use Rattle.std.specs.Prelude.{◌≡◌, List, ℕ, ◌%◌, ◌<◌, ◌≤◌, get_or}
+use Rattle.std.specs.Prelude.{◌≡◌, List, ℕ, ◌<◌, ◌≤◌, get_or}
 use Rattle.tiling.specs.Leaf.{colours}
 use Rattle.painter.specs.Operation.{combine}
 use Rattle.painter.specs.declared.operations.Operation.{Operation}

@@ -106,7 +106,13 @@ pub fn put<P: Picture>(picture: &P, block: P::Block, out: &mut [u64], at: u64) -
             let sw = put(picture, quarter.sw, out, at2);
             let at3 = at2 + size(sw);
             let se = put(picture, quarter.se, out, at3);
-            finish(out, at, Four { nw, ne, sw, se }, P::code(block), P::level(block) - 1)
+            finish(
+                out,
+                at,
+                Four { nw, ne, sw, se },
+                P::code(block),
+                P::level(block) - 1,
+            )
         }
     }
 }

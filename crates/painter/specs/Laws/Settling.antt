@@ -1,5 +1,5 @@
 -- From what is known of the two maps over a square to what the scene shows there.
-use Rattle.std.proofs.Common.{subst, arith}
+use Rattle.std.proofs.Common.{subst}
 use Rattle.std.specs.Prelude.{List, ℕ, ◌+◌, ◌^◌, ◌<◌}
 use Rattle.std.proofs.Math.Nat.{add_assoc}
 use Rattle.tiling.specs.Leaf.{colours}

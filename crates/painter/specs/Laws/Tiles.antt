@@ -1,9 +1,9 @@
 -- A tile of a scene, from those of its two maps; and the picture over the block that it is.
-use Rattle.std.specs.Prelude.{◌≡◌, refl, true, ◌&&◌, ◌||◌, List, ℕ, ◌+◌, ◌-◌, ◌%◌, ◌≤◌, eqb, ltb, leb}
-use Rattle.std.proofs.Common.{sym, ap₂, ◌∙◌, subst, ⊎_elim, arith, eqb-true, ltb-true, leb-true}
+use Rattle.std.specs.Prelude.{◌≡◌, true, ◌||◌, List, ℕ, ◌+◌, ◌-◌, ◌%◌, ◌≤◌, ltb, leb}
+use Rattle.std.proofs.Common.{sym, ap₂, ◌∙◌, ⊎_elim, arith, ltb-true, leb-true}
 use Rattle.morton.specs.Block.{Block}
 use Rattle.tiling.specs.Leaf.{colours}
-use Rattle.tiling.specs.Laws.Tests.{and_both, or_either}
+use Rattle.tiling.specs.Laws.Tests.{or_either}
 use Rattle.probe.specs.Biased.{cell_about}
 use Rattle.shortest.specs.Laws.Same.{Same}
 use Rattle.tiles.specs.Tile.{Tile}

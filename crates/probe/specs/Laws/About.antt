@@ -8,7 +8,7 @@ use Rattle.tiling.specs.Map.{beyond}
 use Rattle.tiling.specs.Laws.Tests.{or_either, or_neither}
 use Rattle.probe.specs.Seen.{Seen, one, mixed, seen_of, Shows, Tells, Holds}
 use Rattle.probe.specs.Biased.{bias, within_b, cell_about}
-use Rattle.probe.specs.Asked.{cell_at, Within, About}
+use Rattle.probe.specs.Asked.{cell_at, Within}
 
 -- the case that a number stands for
 pub is_one_lem : (v : ℕ) → v < colours → seen_of v ≡ one v

@@ -1,8 +1,7 @@
 -- `probe::square::corner` meets its contract: a leaf at least as large as the aligned square of its cell covers it.
 use Rattle.std.proofs.Math.Path.{◌∙◌}
 use Rattle.std.proofs.Common.{sym, leb-true}
-use Rattle.std.proofs.lemmas.Bool.{false≢true}
-use Rattle.probe.specs.Laws.Leaf.{cell_bits, cell_spans, leaf_covers}
+use Rattle.probe.specs.Laws.Leaf.{cell_spans, leaf_covers}
 use Rattle.probe.proofs.square.corner.Goals as goal
 
 pub find-requires : goal.find-requires

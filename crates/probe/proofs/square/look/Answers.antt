@@ -2,7 +2,6 @@
 -- square, which is no single cell; or the corners tell.
 use Rattle.probe.proofs.square.look.Goals.{After-find-at}
 use Rattle.std.proofs.Common.{sym, arith, ◌+◌}
-use Rattle.std.proofs.Math.Nat.{mod-le}
 use Rattle.std.proofs.Math.ListN.{get_or}
 use Rattle.morton.specs.Code.{code}
 use Rattle.tiling.specs.Leaf.{code_of}
@@ -10,7 +9,7 @@ use Rattle.tiling.specs.WellFormed.{Right}
 use Rattle.probe.specs.Search.{Found}
 use Rattle.probe.specs.Laws.Search.{found_right}
 use Rattle.probe.specs.Laws.About.{tells_one, tells_mixed}
-use Rattle.probe.specs.Laws.Leaf.{cell_bits, cell_spans, level_le, first_cell, leaf_covers, leaf_shows, stays_both, leaves_one}
+use Rattle.probe.specs.Laws.Leaf.{cell_spans, level_le, first_cell, leaf_covers, leaf_shows, stays_both, leaves_one}
 use Rattle.probe.proofs.square.look.Goals as goal
 
 -- the leaf that was found, and that it is a block of the square

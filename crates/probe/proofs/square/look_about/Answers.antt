@@ -4,7 +4,7 @@ use Rattle.std.proofs.Math.Path.{◌≡◌}
 use Rattle.std.proofs.Common.{false, ◌+◌, ◌^◌, ◌≤◌}
 use Rattle.probe.specs.Seen.{seen_of}
 use Rattle.probe.specs.Biased.{bias}
-use Rattle.probe.specs.Laws.About.{beyondb, rimb, beyond_shows, rim_many, inner_bounds, inner-within, inner_tells, tells_mixed}
+use Rattle.probe.specs.Laws.About.{beyondb, rimb, beyond_shows, rim_many, inner_bounds, inner_tells, tells_mixed}
 use Rattle.probe.proofs.square.look_about.Goals as goal
 
 pub returns-then-row-side : goal.returns-then-row-side

@@ -1,7 +1,5 @@
 -- `tiles::block` meets its contract: an aligned block lies wholly beyond the map or wholly within it, and there its codes follow one another.
 use Rattle.tiles.proofs.decoding.block.Goals.{Else-row-column}
-use Rattle.std.proofs.Common.{◌^◌, ◌≤◌, arith}
-use Rattle.std.proofs.Math.Pow.{pow_mono}
 use Rattle.tiles.specs.Laws.Codes.{Inside, inside, inside-codes}
 use Rattle.tiles.specs.Laws.Tiles.{beyond_stored, inside_stored}
 use Rattle.tiles.proofs.decoding.block.Goals as goal

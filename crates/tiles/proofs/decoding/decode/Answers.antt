@@ -1,13 +1,12 @@
 -- `tiles::decode` meets its contract. The loop keeps: the cells before `place` have their colours, and the next lies in the leaf at `at`.
 -- A turn adds what the leaf has of the 256 codes, and where it ends the next leaf begins.
 use Rattle.tiles.proofs.decoding.decode.Goals.{In-loop-place, After-last_of-next}
-use Rattle.std.proofs.Math.Path.{◌≡◌, ◌∙◌}
-use Rattle.std.proofs.Common.{refl, sym, arith, rules, ℕ, ◌+◌, ◌-◌, ◌<◌}
+use Rattle.std.proofs.Math.Path.{◌∙◌}
+use Rattle.std.proofs.Common.{sym, arith, ℕ, ◌+◌, ◌-◌, ◌<◌}
 use Rattle.std.proofs.Math.ListN.{get_or}
 use Rattle.probe.specs.Search.{Found}
-use Rattle.probe.specs.Laws.Search.{found_right}
 use Rattle.tiles.specs.Laws.Codes.{run_colours, run_some, run_next, last_within}
-use Rattle.tiles.specs.Laws.Store.{stored_none, stored_run}
+use Rattle.tiles.specs.Laws.Store.{stored_run}
 use Rattle.tiles.proofs.decoding.decode.Goals as goal
 
 -- in the loop the code at the place lies in the leaf

@@ -2,10 +2,9 @@
 use Rattle.tiles.proofs.decoding.steps.Goals.{After-code_of-code}
 use Rattle.std.proofs.Math.Path.{◌≡◌, ◌∙◌}
 use Rattle.std.proofs.Common.{ap₂, arith, ℕ, ◌+◌, ◌<◌}
-use Rattle.std.proofs.lemmas.List.Edits.{fill_by_more}
 use Rattle.morton.specs.Code.{code}
 use Rattle.tiles.specs.Tile.{step_to}
-use Rattle.tiles.specs.Laws.Codes.{tile_cell_lem, step_small}
+use Rattle.tiles.specs.Laws.Codes.{step_small}
 use Rattle.tiles.proofs.decoding.steps.Goals as goal
 
 -- the step, which is small

@@ -1,7 +1,6 @@
 -- `tiles::tile` meets its contract: a colour that is known, an aligned block, or four of them from which the tile is gathered.
-use Rattle.std.proofs.Common.{refl, arith}
 use Rattle.probe.specs.Biased.{cell_about}
-use Rattle.tiles.specs.Laws.Tiles.{own_block, first_block, last_block, small_steps, known_tile, block_tile, gathered_tile}
+use Rattle.tiles.specs.Laws.Tiles.{small_steps, known_tile, gathered_tile}
 use Rattle.tiles.proofs.decoding.tile.Goals as goal
 
 pub returns-then-known-lt-COLOURS : goal.returns-then-known-lt-COLOURS

@@ -1,6 +1,6 @@
 -- `draw` of `painter::View` meets its contract: a block that shows one colour comes to it, and writes nothing.
 use Rattle.painter.specs.View.{scene_of, first_of, second_of}
-use Rattle.painter.specs.Laws.Blocks.{told_one, told_mixed, shows_part, shows_inner}
+use Rattle.painter.specs.Laws.Blocks.{told_one, shows_part, shows_inner}
 use Rattle.painter.proofs.painting.ViewPicture.draw.Goals as goal
 
 pub returns-then-seen-lt-COLOURS : goal.returns-then-seen-lt-COLOURS

@@ -1,6 +1,6 @@
 -- `look` of `painter::View` meets its contract: a block that shows one colour comes to it.
 use Rattle.painter.specs.View.{scene_of, first_of, second_of}
-use Rattle.painter.specs.Laws.Blocks.{told_one, told_mixed, shows_part}
+use Rattle.painter.specs.Laws.Blocks.{told_one, shows_part}
 use Rattle.painter.proofs.painting.ViewPicture.look.Goals as goal
 
 pub returns-then-seen-lt-COLOURS : goal.returns-then-seen-lt-COLOURS

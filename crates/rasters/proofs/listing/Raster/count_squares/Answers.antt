@@ -1,9 +1,8 @@
 -- `rasters::Raster::count_squares` meets its contract: the four squares of four cells are the quarters of their block.
 use Rattle.rasters.proofs.listing.Raster.count_squares.Goals.{After-quarters-quarter}
 use Rattle.std.proofs.Math.Path.{◌∙◌}
-use Rattle.std.proofs.Common.{refl, arith}
-use Rattle.shortest.proofs.Steps.{Closed, counted_fits, counted_part}
-use Rattle.rasters.specs.Raster.{pixel}
+use Rattle.std.proofs.Common.{arith}
+use Rattle.shortest.proofs.Steps.{counted_fits, counted_part}
 use Rattle.rasters.specs.Laws.Pixel.{quarter_of, closed}
 use Rattle.rasters.proofs.listing.Raster.count_squares.Goals as goal
 

@@ -1,8 +1,7 @@
 -- `rasters::Raster::put_squares` meets its contract: each square of four cells is written after those before it, and `finish` makes the block of them.
 use Rattle.rasters.proofs.listing.Raster.put_squares.Goals.{After-quarters-quarter, After-size, After-size-2, After-size-3, After-put_cells-se}
 use Rattle.std.proofs.Math.Path.{◌∙◌}
-use Rattle.std.proofs.Common.{refl, sym, rules, arith, ap, List, ℕ, ◌+◌, ◌-◌}
-use Rattle.std.proofs.lemmas.List.Edits.{sets}
+use Rattle.std.proofs.Common.{refl, rules, arith, ◌+◌, ◌-◌}
 use Rattle.shortest.specs.Part.{size_of}
 use Rattle.shortest.specs.Laws.Quarters.{Ready}
 use Rattle.shortest.proofs.Steps.{Closed, Done, place_nw, place_ne, place_sw, place_se, fits_ne, fits_sw, fits_se, all_done, all_part, all_wrote, finishes_same, finished_same}

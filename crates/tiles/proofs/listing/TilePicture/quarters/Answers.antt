@@ -1,6 +1,6 @@
 -- `quarters` of `tiles::Tile` meets its contract: the quarters of a block of a tile are blocks of it.
 use Rattle.tiles.proofs.listing.TilePicture.quarters.Goals.{After-area-q}
-use Rattle.std.proofs.Common.{refl, arith, ◌-◌}
+use Rattle.std.proofs.Common.{arith, ◌-◌}
 use Rattle.tiles.specs.Laws.Listing.{Four, four, low}
 use Rattle.tiles.proofs.listing.TilePicture.quarters.Goals as goal
 
