@@ -8,7 +8,7 @@ use Rattle.std.proofs.Math.Nat.{le_refl}
 use Rattle.std.proofs.lemmas.List.{get_or_default}
 use Rattle.std.proofs.lemmas.List.Edits.{length-between, get_or-between}
 use Rattle.std.proofs.lemmas.List.Sorted.{IsPartitionedBy-leb}
-use Rattle.tiling.specs.Leaf.{code_of, level_of, colour_of, end_of}
+use Rattle.tiling.specs.Leaf.{code_of, colour_of, end_of}
 use Rattle.tiling.specs.Map.{colour_at}
 use Rattle.tiling.specs.WellFormed.{Right, WellFormed, end_before}
 use Rattle.tiling.specs.Laws.Run.{formed_some}
