@@ -2,7 +2,6 @@
 use Rattle.tiles.proofs.decoding.steps.Goals.{After-code_of-code}
 use Rattle.std.proofs.Math.Path.{◌≡◌, ◌∙◌}
 use Rattle.std.proofs.Common.{ap₂, arith, ℕ, ◌+◌, ◌<◌}
-use Rattle.std.proofs.lemmas.List.Edits.{fill_by_more}
 use Rattle.morton.specs.Code.{code}
 use Rattle.tiles.specs.Tile.{step_to}
 use Rattle.tiles.specs.Laws.Codes.{tile_cell_lem, step_small}
