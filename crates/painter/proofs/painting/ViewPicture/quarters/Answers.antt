@@ -1,9 +1,7 @@
 -- `quarters` of `painter::View` meets its contract: what is known over a block is known over its quarters.
 use Rattle.painter.proofs.painting.ViewPicture.quarters.Goals.{After-quarters}
-use Rattle.std.proofs.Common.{arith, ℕ, ◌-◌, ◌<◌}
-use Rattle.morton.specs.Block.{Quartered}
-use Rattle.shortest.specs.Walk.{Quarter}
-use Rattle.painter.specs.View.{KnowsOver, scene_of, first_of, second_of}
+use Rattle.std.proofs.Common.{arith}
+use Rattle.painter.specs.View.{scene_of, first_of, second_of}
 use Rattle.painter.specs.Laws.Blocks.{quarter_knows}
 use Rattle.painter.proofs.painting.ViewPicture.quarters.Goals as goal
 
