@@ -3,7 +3,8 @@ use Rattle.std.specs.Prelude.{List, ℕ, ◌+◌, ◌^◌, ◌<◌, ◌≤◌}
 use Rattle.morton.specs.Code.{row_of, column_of}
 use Rattle.morton.specs.Power.{highest}
 use Rattle.tiling.specs.WellFormed.{WellFormed}
-use Rattle.probe.specs.Seen.{Tells, Holds, seen_of}
+use Rattle.probe.specs.Seen.{Tells, Holds}
+use Rattle.probe.specs.declared.seen.Seen.{Seen}
 use Rattle.probe.specs.Biased.{cell_about}
 use Rattle.painter.specs.Operation.{combine}
 use Rattle.painter.specs.declared.scene.Scene.{Scene}
@@ -28,11 +29,11 @@ pub record Scened (s : Scene) (a b : List ℕ) : Type 0 where
   pub bx_lt : s.bx < 2 ^ 19
 
 -- what is known of each map over the square of the level at (y, x) is right
-pub record Knows (s : Scene) (a b : List ℕ) (ka kb y x level : ℕ) : Type 0 where
-  pub first : Holds (cell_about s.n a) (s.ay + y) (s.ax + x) level (seen_of ka)
-  pub second : Holds (cell_about s.m b) (s.by + y) (s.bx + x) level (seen_of kb)
+pub record Knows (s : Scene) (a b : List ℕ) (ka kb : Seen) (y x level : ℕ) : Type 0 where
+  pub first : Holds (cell_about s.n a) (s.ay + y) (s.ax + x) level ka
+  pub second : Holds (cell_about s.m b) (s.by + y) (s.bx + x) level kb
 
 -- what is told of the scene, and what is known of the maps from then on
-pub record Told (s : Scene) (a b : List ℕ) (y x level all ka kb : ℕ) : Type 0 where
+pub record Told (s : Scene) (a b : List ℕ) (y x level : ℕ) (all ka kb : Seen) : Type 0 where
   pub knows : Knows s a b ka kb y x level
-  pub shows : Tells (cell_of s a b) y x level (seen_of all)
+  pub shows : Tells (cell_of s a b) y x level all

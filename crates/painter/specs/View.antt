@@ -1,6 +1,7 @@
 -- What a view shows, and what its functions ask and tell of a block.
 use Rattle.std.specs.Prelude.{List, ℕ}
 use Rattle.morton.specs.declared.block.Block.{Block}
+use Rattle.probe.specs.declared.seen.Seen.{Seen}
 use Rattle.painter.specs.Scene.{cell_of, picture, Knows, Told}
 use Rattle.painter.specs.Tiled.{Tiled}
 use Rattle.painter.specs.declared.scene.Known.{Known}
@@ -27,7 +28,7 @@ picture_in v = picture (scene_of v) (first_of v) (second_of v)
 abbrev pub KnowsOver : View → Known → Block → Type 0
 KnowsOver v k b = Knows (scene_of v) (first_of v) (second_of v) k.first k.second b.row b.column b.level
 
-abbrev pub ToldOver : View → Block → ℕ → Known → Type 0
+abbrev pub ToldOver : View → Block → Seen → Known → Type 0
 ToldOver v b all k = Told (scene_of v) (first_of v) (second_of v) b.row b.column b.level all k.first k.second
 
 abbrev pub TiledOver : View → Known → Block → Type 0

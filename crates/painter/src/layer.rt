@@ -1,13 +1,13 @@
 // One of the two maps, as it lies under the window.
-ghost use Rattle.std.specs.Prelude.{◌≡◌, true, ◌⊎◌, ◌+◌, ◌%◌, ◌^◌, ◌<◌, ◌≤◌, length};
-ghost use Rattle.tiling.specs.Leaf.{colours};
-ghost use Rattle.probe.specs.Seen.{Holds, Tells, seen_of};
+ghost use Rattle.std.specs.Prelude.{◌≡◌, true, ◌+◌, ◌%◌, ◌^◌, ◌<◌, length};
+ghost use Rattle.probe.specs.Seen.{Holds, Tells};
 ghost use Rattle.probe.specs.Biased.{cell_about};
 ghost use Rattle.tiles.specs.Tile.{Steps, Tile};
+ghost use Rattle.tiles.specs.Decoding.{Serves};
 
 use morton::{Block, Spread};
-use probe::Square;
-use tiling::{COLOURS, Map};
+use probe::{Seen, Square};
+use tiling::Map;
 
 // A map, where the window's first cell lies in it, at a biased row and column, and the steps of the window's tiles in it: the same for
 // all of them, since they are a tile's side apart.
@@ -37,9 +37,9 @@ impl<'a> Layer<'a> {
     }
 
     // What the map shows over a block of the window, unless it is known already.
-    pub fn ask(&self, table: &Spread, known: u64, block: Block) -> u64
-        requires { Holds (cell_about self.now.map.n self.now.map.list.now) (self.now.row + block.row) (self.now.column + block.column) block.level (seen_of known) }
-        ensures { Tells (cell_about self.now.map.n self.now.map.list.now) (self.now.row + block.row) (self.now.column + block.column) block.level (seen_of result) }
+    pub fn ask(&self, table: &Spread, known: Seen, block: Block) -> Seen
+        requires { Holds (cell_about self.now.map.n self.now.map.list.now) (self.now.row + block.row) (self.now.column + block.column) block.level known }
+        ensures { Tells (cell_about self.now.map.n self.now.map.list.now) (self.now.row + block.row) (self.now.column + block.column) block.level result }
     {
         let square = Square {
             row: self.row + block.row,
@@ -50,17 +50,20 @@ impl<'a> Layer<'a> {
     }
 
     // Whether the map can be painted by tiles: it is known over the block or at least as large as one.
-    pub fn tiled(&self, known: u64) -> bool
-        ensures { result ≡ true → colours ≤ known → 4 ≤ self.now.map.n }
+    pub fn tiled(&self, known: Seen) -> bool
+        ensures { result ≡ true → Serves self.now.map.n known }
     {
-        (known < COLOURS) | (tiles::LEVEL <= self.map.n)
+        match known {
+            Seen::One(_) => true,
+            Seen::Mixed(_) => tiles::LEVEL <= self.map.n,
+        }
     }
 
     // The map's tile over a block of a tile's level.
-    pub fn tile(&self, table: &Spread, known: u64, block: Block, cells: &mut [u8])
+    pub fn tile(&self, table: &Spread, known: Seen, block: Block, cells: &mut [u8])
         requires sized { (length cells.old ≡ 256) × (block.level ≡ 4) }
-        requires known { Holds (cell_about self.now.map.n self.now.map.list.now) (self.now.row + block.row) (self.now.column + block.column) 4 (seen_of known) }
-        requires large { colours ≤ known → 4 ≤ self.now.map.n }
+        requires known { Holds (cell_about self.now.map.n self.now.map.list.now) (self.now.row + block.row) (self.now.column + block.column) 4 known }
+        requires large { Serves self.now.map.n known }
         ensures { Tile (cell_about self.now.map.n self.now.map.list.now) (self.now.row + block.row) (self.now.column + block.column) 256 cells.new }
     {
         let (row, column) = (self.row + block.row, self.column + block.column);

@@ -1,10 +1,8 @@
 // The operations' table, and what is settled by what is known of the two maps over a block.
-ghost use Rattle.std.specs.Prelude.{◌≡◌, ℕ, ◌<◌, length};
-ghost use Rattle.tiling.specs.Leaf.{colours};
-ghost use Rattle.probe.specs.Seen.{one, mixed, seen_of};
+ghost use Rattle.std.specs.Prelude.{◌≡◌, ℕ, length};
 ghost use Rattle.painter.specs.Tiled.{Combined};
 
-use tiling::COLOURS;
+use probe::Seen;
 
 #[derive(Clone, Copy, Debug, PartialEq, Eq)]
 pub enum Operation {
@@ -18,7 +16,7 @@ impl Operation {
     ghost use Rattle.painter.specs.Known.{Joint};
 
     // The colour of a cell, from the first map's and the second's.
-    pub fn combined(self, a: u64, b: u64) -> u64
+    pub fn combined(self, a: u8, b: u8) -> u8
         ensures { result ≡ combine self a b }
     {
         match self {
@@ -29,42 +27,37 @@ impl Operation {
     }
 
     // What is settled by the first map's colour alone.
-    fn first_alone(self, a: u64) -> u64
-        requires { a < colours }
-        ensures { (h : ℕ) → Joint self (one a) (mixed h) (seen_of result) }
+    fn first_alone(self, a: u8) -> Seen
+        ensures { (h : ℕ) → Joint self (Seen.One a) (Seen.Mixed h) result }
     {
         match self {
-            Operation::Intersection => { if a == 0 { 0 } else { COLOURS } }
-            Operation::Union => { if a == 0 { COLOURS } else { a } }
-            Operation::Difference => { if a == 0 { 0 } else { COLOURS } }
+            Operation::Intersection => { if a == 0 { Seen::One(0) } else { Seen::Mixed(0) } }
+            Operation::Union => { if a == 0 { Seen::Mixed(0) } else { Seen::One(a) } }
+            Operation::Difference => { if a == 0 { Seen::One(0) } else { Seen::Mixed(0) } }
         }
     }
 
     // What is settled by the second map's colour alone.
-    fn second_alone(self, b: u64) -> u64
-        ensures { (h : ℕ) → Joint self (mixed h) (one b) (seen_of result) }
+    fn second_alone(self, b: u8) -> Seen
+        ensures { (h : ℕ) → Joint self (Seen.Mixed h) (Seen.One b) result }
     {
         match self {
-            Operation::Intersection => { if b == 0 { 0 } else { COLOURS } }
-            Operation::Union => COLOURS,
-            Operation::Difference => { if b == 0 { COLOURS } else { 0 } }
+            Operation::Intersection => { if b == 0 { Seen::One(0) } else { Seen::Mixed(0) } }
+            Operation::Union => Seen::Mixed(0),
+            Operation::Difference => { if b == 0 { Seen::Mixed(0) } else { Seen::One(0) } }
         }
     }
 
     // The colour of the result, if what is known of the two maps settles it.
-    pub fn joint(self, a: u64, b: u64) -> u64
-        ensures { Joint self (seen_of a) (seen_of b) (seen_of result) }
+    pub fn joint(self, a: Seen, b: Seen) -> Seen
+        ensures { Joint self a b result }
     {
-        if a < COLOURS {
-            if b < COLOURS {
-                return self.combined(a, b);
-            }
-            return self.first_alone(a);
+        match (a, b) {
+            (Seen::One(a), Seen::One(b)) => Seen::One(self.combined(a, b)),
+            (Seen::One(a), Seen::Mixed(_)) => self.first_alone(a),
+            (Seen::Mixed(_), Seen::One(b)) => self.second_alone(b),
+            (Seen::Mixed(_), Seen::Mixed(_)) => Seen::Mixed(0),
         }
-        if b < COLOURS {
-            return self.second_alone(b);
-        }
-        COLOURS
     }
 }
 
@@ -75,6 +68,6 @@ pub fn combine(operation: Operation, first: &mut [u8], second: &[u8])
 {
     // the cells before j are put together
     for (j, cell) in first.iter_mut().enumerate() {
-        *cell = operation.combined(*cell as u64, second[j] as u64) as u8;
+        *cell = operation.combined(*cell, second[j]);
     }
 }

@@ -1,7 +1,6 @@
 // A scene as a picture, and its shortest list.
 ghost use Rattle.std.specs.Prelude.{◌≡◌, ◌++◌, ◌<◌, ◌≤◌, length, drop};
 ghost use Rattle.morton.specs.Power.{highest};
-ghost use Rattle.tiling.specs.Leaf.{colours};
 ghost use Rattle.std.proofs.lemmas.List.Edits.{sets};
 ghost use Rattle.shortest.specs.Shortest.{shortest};
 ghost use Rattle.shortest.specs.Part.{part};
@@ -11,9 +10,9 @@ ghost use Rattle.painter.specs.Painting.{Paints, Writes};
 
 use super::scene::{Known, Scene, View};
 use morton::{Block, Four};
-use shortest::{Picture, Seen};
+use probe::Seen;
+use shortest::Picture;
 use tiles::Tile;
-use tiling::COLOURS;
 
 // A block of the window, and what is known of the maps over it.
 #[derive(Clone, Copy, Debug, PartialEq, Eq)]
@@ -83,30 +82,30 @@ impl<'a> Picture for View<'a> {
         glance.block.level
     }
 
-    fn look(&self, glance: Glance) -> Seen<Glance> {
+    fn look(&self, glance: Glance) -> shortest::Seen<Glance> {
         let block = glance.block;
         let seen = self.shown(glance.known, block);
-        if seen.all < COLOURS {
-            return Seen::Part(seen.all);
+        if let Seen::One(colour) = seen.all {
+            return shortest::Seen::Part(colour as u64);
         }
         let known = seen.known;
         if self.tiled(known, block) {
-            return Seen::Part(self.count_tile(known, block));
+            return shortest::Seen::Part(self.count_tile(known, block));
         }
-        Seen::Closer(Glance { block, known })
+        shortest::Seen::Closer(Glance { block, known })
     }
 
-    fn draw(&self, glance: Glance, out: &mut [u64], at: u64) -> Seen<Glance> {
+    fn draw(&self, glance: Glance, out: &mut [u64], at: u64) -> shortest::Seen<Glance> {
         let block = glance.block;
         let seen = self.shown(glance.known, block);
-        if seen.all < COLOURS {
-            return Seen::Part(seen.all);
+        if let Seen::One(colour) = seen.all {
+            return shortest::Seen::Part(colour as u64);
         }
         let known = seen.known;
         if self.tiled(known, block) {
-            return Seen::Part(self.put_tile(known, block, out, at));
+            return shortest::Seen::Part(self.put_tile(known, block, out, at));
         }
-        Seen::Closer(Glance { block, known })
+        shortest::Seen::Closer(Glance { block, known })
     }
 
     fn quarters(&self, glance: Glance) -> Four<Glance> {
@@ -128,13 +127,13 @@ impl<'a> Picture for View<'a> {
 // A window of size w, of which nothing is known.
 fn whole(w: u64) -> Glance
     requires { w ≤ highest }
-    ensures { (result.block.code ≡ 0) × (result.block.row ≡ 0) × (result.block.column ≡ 0) × (result.block.level ≡ w) × (result.known.first ≡ colours) × (result.known.second ≡ colours) }
+    ensures { (result.block.code ≡ 0) × (result.block.row ≡ 0) × (result.block.column ≡ 0) × (result.block.level ≡ w) × (result.known.first ≡ Seen.Mixed 0) × (result.known.second ≡ Seen.Mixed 0) }
 {
     Glance {
         block: Block::whole(w),
         known: Known {
-            first: COLOURS,
-            second: COLOURS,
+            first: Seen::Mixed(0),
+            second: Seen::Mixed(0),
         },
     }
 }

@@ -4,7 +4,8 @@ ghost use Rattle.std.specs.Prelude.{◌≡◌, true, length};
 use super::layer::Layer;
 use super::operations::Operation;
 use morton::{Block, Spread};
-use tiling::{COLOURS, Map};
+use probe::Seen;
+use tiling::Map;
 
 // Two maps of sizes n and m, and where the window's first cell lies in each, at biased rows and columns.
 #[derive(Clone, Copy, Debug, PartialEq, Eq)]
@@ -21,14 +22,14 @@ pub struct Scene {
 // What is known of each map over a block.
 #[derive(Clone, Copy, Debug, PartialEq, Eq)]
 pub struct Known {
-    pub first: u64,
-    pub second: u64,
+    pub first: Seen,
+    pub second: Seen,
 }
 
 // What is seen of a block: of the scene, and what is known of each map from then on.
 #[derive(Clone, Copy, Debug, PartialEq, Eq)]
 pub struct Probe {
-    pub all: u64,
+    pub all: Seen,
     pub known: Known,
 }
 
@@ -68,7 +69,7 @@ impl<'a> View<'a> {
     {
         let first = self.first.ask(&self.table, known.first, block);
         let early = self.operation.joint(first, known.second);
-        if early < COLOURS {
+        if let Seen::One(_) = early {
             let second = known.second;
             return Probe {
                 all: early,

@@ -1,15 +1,7 @@
 -- What is seen of a square of cells, in any picture g of colours by row and column.
-use Rattle.std.specs.Prelude.{◌≡◌, cond, ℕ, ◌+◌, ◌-◌, ◌/◌, ◌^◌, ◌<◌, ltb}
-use Rattle.tiling.specs.Leaf.{colours}
-
--- one colour; or look closer, with a place in the map's list from which to search
-pub data Seen : Type 0 where
-  one : ℕ → Seen
-  mixed : ℕ → Seen
-
--- the case that a number stands for
-abbrev pub seen_of : ℕ → Seen
-seen_of v = cond (ltb v colours) (one v) (mixed (v - colours))
+use Rattle.std.specs.Prelude.{◌≡◌, ℕ, ◌+◌, ◌/◌, ◌^◌, ◌<◌}
+use Rattle.probe.specs.declared.seen.Seen.{Seen}
+use Rattle.probe.specs.declared.seen.Seen.TheVariants.{One, Mixed}
 
 -- every cell of the square of side 2 ^ level at (row, column) has the colour
 pub record Shows (g : ℕ → ℕ → ℕ) (row column level colour : ℕ) : Type 0 where
@@ -21,10 +13,10 @@ pub record Covers (g : ℕ → ℕ → ℕ) (row column level colour : ℕ) : Ty
 
 -- what an answer promises: one colour is that of every cell; a single cell is never mixed
 abbrev pub Tells : (ℕ → ℕ → ℕ) → ℕ → ℕ → ℕ → Seen → Type 0
-Tells g row column level (one c) = Shows g row column level c
-Tells g row column level (mixed h) = 0 < level
+Tells g row column level (One c) = Shows g row column level c
+Tells g row column level (Mixed h) = 0 < level
 
 -- what was known before: a colour is right; a place may be any number
 abbrev pub Holds : (ℕ → ℕ → ℕ) → ℕ → ℕ → ℕ → Seen → Type 0
-Holds g row column level (one c) = Shows g row column level c
-Holds g row column level (mixed h) = Unit {0}
+Holds g row column level (One c) = Shows g row column level c
+Holds g row column level (Mixed h) = Unit {0}

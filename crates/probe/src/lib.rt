@@ -5,7 +5,9 @@
 #![tactic(auto)]
 
 pub mod search;
+pub mod seen;
 pub mod square;
 
 pub use search::{colour_in, find};
+pub use seen::Seen;
 pub use square::{Square, ask, biased};

@@ -1,18 +1,15 @@
 // What a square of cells shows that lies within a map or beyond it.
-//
-// What is known of a map over a square is one number: below `tiling::COLOURS` it is the colour of every cell; from there on it is
-// that much more than a place in the list, a hint where to search. `Seen` of specs/Seen.antt names the two cases.
 ghost use Rattle.std.specs.Prelude.{◌≡◌, true, ◌≤◌, nat_abs};
 ghost use Rattle.probe.specs.Biased.{biased, reach, cell_about};
-ghost use Rattle.probe.specs.Seen.{Shows, Covers, Tells, Holds, seen_of};
-ghost use Rattle.tiling.specs.Leaf.{colours};
+ghost use Rattle.probe.specs.Seen.{Shows, Covers, Tells, Holds};
 ghost use Rattle.probe.specs.Asked.{cell_at, Cell, Within, Across, About};
 
+use super::seen::Seen;
 use morton::Spread;
-use tiling::{COLOURS, Map};
+use tiling::Map;
 
 // A cell beyond a map counts as WHITE.
-pub const BEYOND: u64 = 0;
+pub const BEYOND: u8 = 0;
 
 // What is added to a row or a column, so that it is a number from 0 on wherever a window may lie.
 pub const BIAS: u64 = 262144;
@@ -34,13 +31,13 @@ pub fn biased(v: i64) -> u64
 }
 
 // Whether the aligned square of the level that holds a cell lies in one leaf of the colour.
-fn corner(map: &Map, table: &Spread, hint: usize, at: Square, colour: u64) -> bool
+fn corner(map: &Map, table: &Spread, hint: usize, at: Square, colour: u8) -> bool
     requires { Cell map.now.n at.row at.column }
     ensures { result ≡ true → Covers (cell_at map.now.list.now) at.row at.column at.level colour }
 {
     let list = map.list;
     let w = list[super::search::find(list, table.code_of(at.row, at.column), hint)];
-    if tiling::colour_of(w) as u64 != colour {
+    if tiling::colour_of(w) != colour {
         return false;
     }
     at.level <= tiling::level_of(w)
@@ -49,7 +46,7 @@ fn corner(map: &Map, table: &Spread, hint: usize, at: Square, colour: u64) -> bo
 // Whether a square has the colour of the aligned square that holds its upper left corner: the other three corners tell.
 // A right corner counts only if the column is no multiple of the side, a lower one only if the row is none.
 #[tactic(auto, using(crate::specs::Laws::Corners::two_rows, crate::specs::Laws::Corners::two_columns, crate::specs::Laws::Corners::four_corners))]
-fn across(map: &Map, table: &Spread, hint: usize, square: Square, colour: u64) -> bool
+fn across(map: &Map, table: &Spread, hint: usize, square: Square, colour: u8) -> bool
     requires { Across map.now.n map.now.list.now square.row square.column square.level colour }
     ensures { result ≡ true → Shows (cell_at map.now.list.now) square.row square.column square.level colour }
 {
@@ -82,58 +79,58 @@ fn across(map: &Map, table: &Spread, hint: usize, square: Square, colour: u64) -
 }
 
 // What a square within the map shows.
-fn look(map: &Map, table: &Spread, hint: usize, square: Square) -> u64
+fn look(map: &Map, table: &Spread, hint: usize, square: Square) -> Seen
     requires { Within map.now.n square.row square.column square.level }
-    ensures { Tells (cell_at map.now.list.now) square.row square.column square.level (seen_of result) }
+    ensures { Tells (cell_at map.now.list.now) square.row square.column square.level result }
 {
     let (row, column) = (square.row, square.column);
     let at = super::search::find(map.list, table.code_of(row, column), hint);
     let w = map.list[at];
-    let colour = tiling::colour_of(w) as u64;
+    let colour = tiling::colour_of(w);
     let leaf_level = tiling::level_of(w);
     let leaf_side = morton::side(leaf_level);
     let side = morton::side(square.level);
     if (row % leaf_side + side <= leaf_side) & (column % leaf_side + side <= leaf_side) {
-        return colour;
+        return Seen::One(colour);
     }
     if leaf_level < square.level {
-        return at as u64 + COLOURS;
+        return Seen::Mixed(at);
     }
     if across(map, table, at, square, colour) {
-        return colour;
+        return Seen::One(colour);
     }
-    at as u64 + COLOURS
+    Seen::Mixed(at)
 }
 
 // What a square anywhere about the map shows, at a biased row and column; nothing is known of it but a hint.
-fn look_about(map: &Map, table: &Spread, known: u64, square: Square) -> u64
-    requires { About square.row square.column square.level × (colours ≤ known) }
-    ensures { Tells (cell_about map.now.n map.now.list.now) square.row square.column square.level (seen_of result) }
+fn look_about(map: &Map, table: &Spread, hint: usize, square: Square) -> Seen
+    requires { About square.row square.column square.level }
+    ensures { Tells (cell_about map.now.n map.now.list.now) square.row square.column square.level result }
 {
     let side = morton::side(square.level);
     let end = BIAS + morton::side(map.n);
     let (row, column) = (square.row, square.column);
     if (row + side <= BIAS) | (column + side <= BIAS) | (end <= row) | (end <= column) {
-        return BEYOND;
+        return Seen::One(BEYOND);
     }
     if (row < BIAS) | (column < BIAS) | (end < row + side) | (end < column + side) {
-        return known;
+        return Seen::Mixed(hint);
     }
     let within = Square {
         row: row - BIAS,
         column: column - BIAS,
         ..square
     };
-    look(map, table, (known - COLOURS) as usize, within)
+    look(map, table, hint, within)
 }
 
 // What a square anywhere about the map shows, at a biased row and column, unless it is known already.
-pub fn ask(map: &Map, table: &Spread, known: u64, square: Square) -> u64
-    requires { About square.row square.column square.level × Holds (cell_about map.now.n map.now.list.now) square.row square.column square.level (seen_of known) }
-    ensures { Tells (cell_about map.now.n map.now.list.now) square.row square.column square.level (seen_of result) }
+pub fn ask(map: &Map, table: &Spread, known: Seen, square: Square) -> Seen
+    requires { About square.row square.column square.level × Holds (cell_about map.now.n map.now.list.now) square.row square.column square.level known }
+    ensures { Tells (cell_about map.now.n map.now.list.now) square.row square.column square.level result }
 {
-    if known < COLOURS {
-        return known;
+    match known {
+        Seen::One(_) => known,
+        Seen::Mixed(hint) => look_about(map, table, hint, square),
     }
-    look_about(map, table, known, square)
 }

@@ -1,7 +1,9 @@
 -- What the functions ask that decode a tile of a map.
 use Rattle.std.specs.Prelude.{◌≡◌, cond, List, ℕ, ◌+◌, ◌-◌, ◌%◌, ◌^◌, ◌<◌, ◌≤◌, ltb}
-use Rattle.tiling.specs.Leaf.{end_of, colours}
-use Rattle.probe.specs.Seen.{Holds, seen_of}
+use Rattle.tiling.specs.Leaf.{end_of}
+use Rattle.probe.specs.Seen.{Holds}
+use Rattle.probe.specs.declared.seen.Seen.{Seen}
+use Rattle.probe.specs.declared.seen.Seen.TheVariants.{One, Mixed}
 use Rattle.probe.specs.Biased.{cell_about}
 use Rattle.tiles.specs.Tile.{Steps}
 
@@ -23,10 +25,15 @@ pub record Aligned (n row column : ℕ) : Type 0 where
   pub row_lt : row < 2 ^ 21
   pub column_lt : column < 2 ^ 21
 
--- a tile anywhere about a map, at a biased row and column: its colour is known, or the map is at least as large as a tile
-pub record About (n : ℕ) (l : List ℕ) (known row column : ℕ) (steps : List ℕ) : Type 0 where
-  pub holds : Holds (cell_about n l) row column 4 (seen_of known)
-  pub large : colours ≤ known → 4 ≤ n
+-- a map of size n, of which so much is known over a tile, has a tile there: its colour is known, or the map is at least as large as a tile
+abbrev pub Serves : ℕ → Seen → Type 0
+Serves n (One c) = Unit {0}
+Serves n (Mixed h) = 4 ≤ n
+
+-- a tile anywhere about a map, at a biased row and column
+pub record About (n : ℕ) (l : List ℕ) (known : Seen) (row column : ℕ) (steps : List ℕ) : Type 0 where
+  pub holds : Holds (cell_about n l) row column 4 known
+  pub large : Serves n known
   pub row_lt : row < 2 ^ 20
   pub column_lt : column < 2 ^ 20
   pub stepped : Steps (row % 16) (column % 16) steps

@@ -8,8 +8,9 @@ ghost use Rattle.tiles.specs.Tile.{Stored, Tile, Steps, plain, codes, tile_of};
 ghost use Rattle.tiles.specs.Decoding.{Decodes, Aligned, About, last_of};
 
 use morton::Spread;
+use probe::Seen;
 use probe::square::{BEYOND, BIAS};
-use tiling::{COLOURS, Map};
+use tiling::Map;
 
 // The level of a tile; it has 16 cells a side, 256 in all.
 pub const LEVEL: u64 = 4;
@@ -80,7 +81,7 @@ fn block(
 {
     let end = BIAS + morton::side(map.n);
     if (row + 16 <= BIAS) | (column + 16 <= BIAS) | (end <= row) | (end <= column) {
-        store(cells, from, from + 256, BEYOND as u8);
+        store(cells, from, from + 256, BEYOND);
         return;
     }
     let code = table.code_of(row - BIAS, column - BIAS);
@@ -129,7 +130,7 @@ fn gather(steps: &[u16; 256], four: &[u8; 1024], cells: &mut [u8])
 pub fn tile(
     map: &Map,
     table: &Spread,
-    known: u64,
+    known: Seen,
     row: u64,
     column: u64,
     steps: &[u16; 256],
@@ -138,11 +139,13 @@ pub fn tile(
     requires { (length cells.old ≡ 256) × About map.now.n map.now.list.now known row column steps.now }
     ensures { Tile (cell_about map.now.n map.now.list.now) row column 256 cells.new }
 {
-    if known < COLOURS {
-        store(cells, 0, 256, known as u8);
-        return;
-    }
-    let hint = (known - COLOURS) as usize;
+    let hint = match known {
+        Seen::One(colour) => {
+            store(cells, 0, 256, colour);
+            return;
+        }
+        Seen::Mixed(hint) => hint,
+    };
     let down = row % 16;
     let right = column % 16;
     if (down == 0) & (right == 0) {

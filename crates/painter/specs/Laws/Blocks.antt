@@ -1,6 +1,6 @@
 -- The blocks of a scene: the picture over one that shows one colour, and the quarters of one that does not.
 use Rattle.std.specs.Prelude.{◌≡◌, ◌&&◌, List, ℕ, zero, suc, ◌+◌, ◌-◌, ◌*◌, ◌^◌, ◌<◌, ◌≤◌, length, get_or}
-use Rattle.std.proofs.Common.{sym, ap, ap₂, ◌∙◌, subst, arith}
+use Rattle.std.proofs.Common.{sym, ap, ap₂, ◌∙◌, arith}
 use Rattle.std.proofs.Math.Nat.{pow-succ'}
 use Rattle.std.proofs.lemmas.List.{get_or_past}
 use Rattle.std.proofs.Math.Decide.{dec_lt}
@@ -11,9 +11,10 @@ use Rattle.tiling.specs.Leaf.{colours}
 use Rattle.tiles.specs.Tile.{Tile}
 use Rattle.tiling.specs.Map.{beyond, colour_at}
 use Rattle.tiling.specs.Laws.Colour.{colour_lt}
-use Rattle.probe.specs.Seen.{Seen, one, mixed, seen_of, Shows, Tells, Holds}
+use Rattle.probe.specs.Seen.{Shows, Holds}
+use Rattle.probe.specs.declared.seen.Seen.{Seen}
+use Rattle.probe.specs.declared.seen.Seen.TheVariants.{One, Mixed}
 use Rattle.probe.specs.Biased.{bias, within_b, cell_about}
-use Rattle.probe.specs.Laws.About.{is_one_lem, is_mixed}
 use Rattle.std.proofs.lemmas.List.Edits.{sets}
 use Rattle.shortest.specs.Part.{part}
 use Rattle.shortest.specs.Written.{inner}
@@ -46,12 +47,7 @@ tile_bytes s a b y x cells w t j = elim (dec_lt j 256) [
   | no h ↦ let e : get_or cells j 0 ≡ 0 = get_or_past cells j 0 (omega arith) in omega (arith, e)
 ]
 
--- ---- what was told, by its number
-pub told_one : (g : ℕ → ℕ → ℕ) (y x level v : ℕ) → v < colours → Tells g y x level (seen_of v) → Shows g y x level v
-told_one g y x level v h t = subst (λ (z : Seen). Tells g y x level z) (is_one_lem v h) t
-
-pub told_mixed : (g : ℕ → ℕ → ℕ) (y x level v : ℕ) → colours ≤ v → Tells g y x level (seen_of v) → 0 < level
-told_mixed g y x level v h t = subst (λ (z : Seen). Tells g y x level z) (is_mixed v h) t
+-- ---- what was told
 
 -- the cells of a block are its codes
 shows_flat : (s : Scene) (a b : List ℕ) (k y x level c : ℕ) → Block k y x level → Shows (cell_of s a b) y x level c → Flat (picture s a b) c level k
@@ -77,27 +73,27 @@ module _ (s : Scene) (a b : List ℕ) (k y x level c : ℕ) (h : Block k y x lev
 -- ---- what is known of a square is known of a square within it
 holds_part : (g : ℕ → ℕ → ℕ) (row column level dy dx row' column' level' : ℕ) (k : Seen) → row + dy ≡ row' → column + dx ≡ column'
     → dy + 2 ^ level' ≤ 2 ^ level → dx + 2 ^ level' ≤ 2 ^ level → Holds g row column level k → Holds g row' column' level' k
-holds_part g row column level dy dx row' column' level' (one c) er ec ly lx h = record {
+holds_part g row column level dy dx row' column' level' (One c) er ec ly lx h = record {
   each = λ i j hi hj.
       let u : row' + i ≡ row + (dy + i) = omega arith in
       let v : column' + j ≡ column + (dx + j) = omega arith in
       rw (u, v) (h.each (dy + i) (dx + j) (omega arith) (omega arith));
 }
-holds_part g row column level dy dx row' column' level' (mixed p) er ec ly lx h = tt
+holds_part g row column level dy dx row' column' level' (Mixed p) er ec ly lx h = tt
 
-knows_part : (s : Scene) (a b : List ℕ) (ka kb y x level dy dx y' x' level' : ℕ) → y + dy ≡ y' → x + dx ≡ x'
+knows_part : (s : Scene) (a b : List ℕ) (ka kb : Seen) (y x level dy dx y' x' level' : ℕ) → y + dy ≡ y' → x + dx ≡ x'
     → dy + 2 ^ level' ≤ 2 ^ level → dx + 2 ^ level' ≤ 2 ^ level → Knows s a b ka kb y x level → Knows s a b ka kb y' x' level'
 knows_part s a b ka kb y x level dy dx y' x' level' ey ex ly lx h = record {
-  first = holds_part _ _ _ level dy dx _ _ level' (seen_of ka) (omega arith) (omega arith) ly lx h.first;
-  second = holds_part _ _ _ level dy dx _ _ level' (seen_of kb) (omega arith) (omega arith) ly lx h.second;
+  first = holds_part _ _ _ level dy dx _ _ level' ka (omega arith) (omega arith) ly lx h.first;
+  second = holds_part _ _ _ level dy dx _ _ level' kb (omega arith) (omega arith) ly lx h.second;
 }
 
 -- of a whole window nothing is known
-pub whole_knows : (s : Scene) (a b : List ℕ) (w : ℕ) → Knows s a b colours colours 0 0 w
+pub whole_knows : (s : Scene) (a b : List ℕ) (w : ℕ) → Knows s a b (Mixed 0) (Mixed 0) 0 0 w
 whole_knows s a b w = record { first = tt; second = tt }
 
 -- the quarter i to the south and j to the east
-pub quarter_knows : (s : Scene) (a b : List ℕ) (ka kb k y x level i j k' y' x' level' : ℕ) → 0 < level → i < 2 → j < 2
+pub quarter_knows : (s : Scene) (a b : List ℕ) (ka kb : Seen) (k y x level i j k' y' x' level' : ℕ) → 0 < level → i < 2 → j < 2
     → Quartered k y x (level - 1) i j k' y' x' level' → Knows s a b ka kb y x level → Knows s a b ka kb y' x' level'
 quarter_knows s a b ka kb k y x level i j k' y' x' level' p hi hj q n =
     let h : ℕ = 2 ^ (level - 1) in

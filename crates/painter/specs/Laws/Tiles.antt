@@ -1,9 +1,7 @@
 -- A tile of a scene, from those of its two maps; and the picture over the block that it is.
-use Rattle.std.specs.Prelude.{◌≡◌, true, ◌||◌, List, ℕ, ◌+◌, ◌-◌, ◌%◌, ◌≤◌, ltb, leb}
-use Rattle.std.proofs.Common.{sym, ap₂, ◌∙◌, ⊎_elim, arith, ltb-true, leb-true}
+use Rattle.std.specs.Prelude.{◌≡◌, List, ℕ, ◌+◌, ◌-◌, ◌%◌}
+use Rattle.std.proofs.Common.{sym, ap₂, ◌∙◌, arith}
 use Rattle.morton.specs.Block.{Block}
-use Rattle.tiling.specs.Leaf.{colours}
-use Rattle.tiling.specs.Laws.Tests.{or_either}
 use Rattle.probe.specs.Biased.{cell_about}
 use Rattle.shortest.specs.Laws.Same.{Same}
 use Rattle.tiles.specs.Tile.{Tile}
@@ -14,10 +12,6 @@ use Rattle.painter.specs.Operation.{combine}
 use Rattle.painter.specs.Scene.{cell_of, picture}
 use Rattle.painter.specs.Tiled.{Combined}
 use Rattle.painter.specs.declared.scene.Scene.{Scene}
-
--- the test
-pub known_or_large : (k n : ℕ) → (ltb k colours || leb 4 n) ≡ true → colours ≤ k → 4 ≤ n
-known_or_large k n h m = ⊎_elim (λ (a : ltb k colours ≡ true). absurd (omega (arith, ltb-true k colours a))) (λ a. leb-true 4 n a) (or_either _ _ h)
 
 -- steps are the same a tile's side further on
 pub further : (v y : ℕ) → y % 16 ≡ 0 → v % 16 ≡ (v + y) % 16

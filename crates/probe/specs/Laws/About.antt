@@ -1,39 +1,20 @@
 -- A square about a map: wholly beyond it, across its rim, or within it.
 use Rattle.std.specs.Prelude.{◌≡◌, refl, Bool, true, false, ◌||◌, ◌⊎◌, List, ℕ, zero, suc, ◌+◌, ◌-◌, ◌^◌, ◌<◌, ◌≤◌, leb, ltb}
-use Rattle.std.proofs.Common.{sym, ◌∙◌, subst, inl, inr, ⊎_elim, arith, lt-ltb, le-ltb, le-leb, leb-true, leb-false, ltb-true, ltb-false}
+use Rattle.std.proofs.Common.{◌∙◌, inl, inr, ⊎_elim, arith, lt-ltb, le-ltb, le-leb, leb-true, leb-false, ltb-true, ltb-false}
 use Rattle.std.proofs.Math.Bool.{and-false}
 use Rattle.std.proofs.lemmas.Bool.{lt-leb}
-use Rattle.tiling.specs.Leaf.{colours}
 use Rattle.tiling.specs.Map.{beyond}
 use Rattle.tiling.specs.Laws.Tests.{or_either, or_neither}
-use Rattle.probe.specs.Seen.{Seen, one, mixed, seen_of, Shows, Tells, Holds}
+use Rattle.probe.specs.Seen.{Shows, Tells, Holds}
+use Rattle.probe.specs.declared.seen.Seen.{Seen}
+use Rattle.probe.specs.declared.seen.Seen.TheVariants.{One, Mixed}
 use Rattle.probe.specs.Biased.{bias, within_b, cell_about}
 use Rattle.probe.specs.Asked.{cell_at, Within}
 
--- the case that a number stands for
-pub is_one_lem : (v : ℕ) → v < colours → seen_of v ≡ one v
-is_one_lem v h = rw (lt-ltb v colours h)
-
-pub is_mixed : (v : ℕ) → colours ≤ v → seen_of v ≡ mixed (v - colours)
-is_mixed v h = rw (le-ltb v colours h)
-
--- a colour, or a place, told by its number, in any picture
-module _ (g : ℕ → ℕ → ℕ) (row column level v : ℕ) where
-  pub tells_one : v < colours → Shows g row column level v → Tells g row column level (seen_of v)
-  tells_one h t = rw (is_one_lem v h) t
-
-  pub tells_mixed : colours ≤ v → 0 < level → Tells g row column level (seen_of v)
-  tells_mixed h t = rw (is_mixed v h) t
-
-  -- a colour that was known is told again
-  pub tells_known : v < colours → Holds g row column level (seen_of v) → Tells g row column level (seen_of v)
-  tells_known e h =
-      subst (λ (s : Seen). Tells g row column level s) (sym (is_one_lem v e)) (subst (λ (s : Seen). Holds g row column level s) (is_one_lem v e) h)
-
--- and what is told is known from then on
+-- what is told is known from then on
 pub tells_holds : (g : ℕ → ℕ → ℕ) (row column level : ℕ) (s : Seen) → Tells g row column level s → Holds g row column level s
-tells_holds g row column level (one c) h = h
-tells_holds g row column level (mixed p) h = tt
+tells_holds g row column level (One c) h = h
+tells_holds g row column level (Mixed p) h = tt
 
 -- ---- where a square lies, by the tests of its first row and column, and its last
 
@@ -129,7 +110,7 @@ module _ (n : ℕ) (l : List ℕ) (row column level : ℕ) where
         record { rows = omega arith; columns = omega arith }
 
     pub inner_tells : (s : Seen) → Tells (cell_at l) (row - bias) (column - bias) level s → Tells (cell_about n l) row column level s
-    inner_tells (one c) t =
+    inner_tells (One c) t =
         let b = inner_bounds row column (2 ^ level) (bias + 2 ^ n) inner in
         record { each = λ i j hi hj. inner_cell n l row column (2 ^ level) b.0 b.1 b.2 b.3 i j hi hj ∙ t.each i j hi hj }
-    inner_tells (mixed p) t = t
+    inner_tells (Mixed p) t = t

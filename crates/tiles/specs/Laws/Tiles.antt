@@ -1,16 +1,16 @@
 -- Tiles from what is stored of them: a block beyond the map or within it, four blocks, and a tile that lies across four.
 use Rattle.std.specs.Prelude.{◌≡◌, refl, true, ◌&&◌, List, ℕ, ◌+◌, ◌-◌, ◌%◌, ◌^◌, ◌<◌, ◌≤◌, eqb, get_or}
-use Rattle.std.proofs.Common.{sym, ap, ap₂, ◌∙◌, subst, arith, eqb-true}
+use Rattle.std.proofs.Common.{sym, ap, ap₂, ◌∙◌, arith, eqb-true}
 use Rattle.std.proofs.Math.Decide.{dec_lt}
 use Rattle.morton.specs.Code.{code, row_of, column_of}
 use Rattle.morton.specs.Laws.Cell.{cell_of-code}
 use Rattle.morton.specs.Power.{highest}
-use Rattle.tiling.specs.Leaf.{colours}
 use Rattle.tiling.specs.Map.{beyond}
 use Rattle.tiling.specs.Laws.Tests.{and_both}
-use Rattle.probe.specs.Seen.{Seen, Shows, Holds, seen_of}
+use Rattle.probe.specs.Seen.{Shows}
+use Rattle.probe.specs.declared.seen.Seen.TheVariants.{Mixed}
 use Rattle.probe.specs.Biased.{bias, cell_about}
-use Rattle.probe.specs.Laws.About.{beyondb, beyond_shows, is_one_lem}
+use Rattle.probe.specs.Laws.About.{beyondb, beyond_shows}
 use Rattle.tiles.specs.Tile.{Stored, Tile, Steps, step_to, plain, codes, tile_of}
 use Rattle.tiles.specs.Decoding.{Aligned, About}
 use Rattle.tiles.specs.Laws.Store.{stored_as}
@@ -64,11 +64,10 @@ module _ (g : ℕ → ℕ → ℕ) (row column : ℕ) where
       ]
 
   -- a tile of one colour
-  pub known_tile : (known : ℕ) → known < colours → Holds g row column 4 (seen_of known) → {before after : List ℕ} → Stored before 0 256 (plain known) after → Tile g row column 256 after
-  known_tile known h k s = record {
+  pub known_tile : (colour : ℕ) → Shows g row column 4 colour → {before after : List ℕ} → Stored before 0 256 (plain colour) after → Tile g row column 256 after
+  known_tile colour w s = record {
     each = λ j m.
         let t = tile_cell_lem j m in
-        let w : Shows g row column 4 known = subst (λ (x : Seen). Holds g row column 4 x) (is_one_lem known h) k in
         s.among j (omega arith) m ∙ sym (w.each (row_of j) (column_of j) t.0 t.1);
   }
 
@@ -84,12 +83,12 @@ module _ (g : ℕ → ℕ → ℕ) (row column : ℕ) where
   }
 
 -- ---- the blocks of a tile about a map: its own if it is aligned, else the four from the one that holds its first cell
-module _ (n : ℕ) (l : List ℕ) (known row column : ℕ) (steps : List ℕ) (a : About n l known row column steps) (h : colours ≤ known) where
+module _ (n : ℕ) (l : List ℕ) (hint row column : ℕ) (steps : List ℕ) (a : About n l (Mixed hint) row column steps) where
   pub own_block : (eqb (row % 16) 0 && eqb (column % 16) 0) ≡ true → Aligned n row column
   own_block e =
       let b = and_both _ _ e in
       record {
-        large = a.large h;
+        large = a.large;
         rows = eqb-true _ _ b.0;
         columns = eqb-true _ _ b.1;
         row_lt = omega (arith, a.row_lt);
@@ -97,10 +96,10 @@ module _ (n : ℕ) (l : List ℕ) (known row column : ℕ) (steps : List ℕ) (a
       }
 
   pub first_block : Aligned n (row - row % 16) (column - column % 16)
-  first_block = record { large = a.large h; rows = omega arith; columns = omega arith; row_lt = omega (arith, a.row_lt); column_lt = omega (arith, a.column_lt) }
+  first_block = record { large = a.large; rows = omega arith; columns = omega arith; row_lt = omega (arith, a.row_lt); column_lt = omega (arith, a.column_lt) }
 
   pub last_block : Aligned n (row - row % 16 + 16) (column - column % 16 + 16)
-  last_block = record { large = a.large h; rows = omega arith; columns = omega arith; row_lt = omega (arith, a.row_lt); column_lt = omega (arith, a.column_lt) }
+  last_block = record { large = a.large; rows = omega arith; columns = omega arith; row_lt = omega (arith, a.row_lt); column_lt = omega (arith, a.column_lt) }
 
   pub small_steps : (j : ℕ) → j < 256 → get_or steps j 0 < 1024
   small_steps j m = rw (a.stepped.each j m) (step_small (row % 16) (column % 16) j (omega arith) (omega arith) m)

@@ -1,15 +1,15 @@
 -- `probe::square::look` meets its contract: the square stays within the leaf of its upper left cell; or that leaf is smaller than the
 -- square, which is no single cell; or the corners tell.
 use Rattle.probe.proofs.square.look.Goals.{After-find-at}
-use Rattle.std.proofs.Common.{sym, arith, ◌+◌}
+use Rattle.std.proofs.Common.{sym, arith}
+use Rattle.std.proofs.Math.Nat.{mod-le}
 use Rattle.std.proofs.Math.ListN.{get_or}
 use Rattle.morton.specs.Code.{code}
 use Rattle.tiling.specs.Leaf.{code_of}
 use Rattle.tiling.specs.WellFormed.{Right}
 use Rattle.probe.specs.Search.{Found}
 use Rattle.probe.specs.Laws.Search.{found_right}
-use Rattle.probe.specs.Laws.About.{tells_one, tells_mixed}
-use Rattle.probe.specs.Laws.Leaf.{cell_spans, level_le, first_cell, leaf_covers, leaf_shows, stays_both, leaves_one}
+use Rattle.probe.specs.Laws.Leaf.{cell_bits, cell_spans, level_le, first_cell, leaf_covers, leaf_shows, stays_both, leaves_one}
 use Rattle.probe.proofs.square.look.Goals as goal
 
 -- the leaf that was found, and that it is a block of the square
@@ -36,8 +36,7 @@ returns-then-row-leaf_side c =
     let b = c.side-leaf_side.ensures.is in
     let s = c.side-side.ensures.is in
     let m = c.level_of-leaf_level.ensures in
-    tells_one _ _ _ _ c.colour_of-colour.result (omega (arith, c.colour_of-colour.ensures))
-    (rw c.colour_of-colour.ensures (leaf_shows _ _ _ _ c.args.map.now.is (first_cell _ _ _ _ c.requires) _ (found (goal.at.returns-then-row-leaf_side c).After-find-at) _ (rw (b, s, m) at f.0) (rw (b, s, m) at f.1)))
+    rw c.colour_of-colour.ensures (leaf_shows _ _ _ _ c.args.map.now.is (first_cell _ _ _ _ c.requires) _ (found (goal.at.returns-then-row-leaf_side c).After-find-at) _ (rw (b, s, m) at f.0) (rw (b, s, m) at f.1))
 
 pub across-requires : goal.across-requires
 across-requires c =
@@ -48,7 +47,8 @@ across-requires c =
     }
     )
 
+pub returns-then-across : goal.returns-then-across
+returns-then-across c = c.across.ensures c.if-across.true
+
 pub returns : goal.returns
-returns c =
-    tells_mixed _ _ _ _ (c.find-at.result + 256) (omega arith)
-    (leaves_one _ _ _ _ _ c.side-leaf_side.ensures.low c.side-side.ensures.is c.if-row-leaf_side.false)
+returns c = leaves_one _ _ _ _ _ c.side-leaf_side.ensures.low c.side-side.ensures.is c.if-row-leaf_side.false

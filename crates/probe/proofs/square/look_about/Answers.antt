@@ -2,9 +2,8 @@
 use Rattle.probe.proofs.square.look_about.Goals.{Else-row-side, Else-row-column}
 use Rattle.std.proofs.Math.Path.{◌≡◌}
 use Rattle.std.proofs.Common.{false, ◌+◌, ◌^◌, ◌≤◌}
-use Rattle.probe.specs.Seen.{seen_of}
 use Rattle.probe.specs.Biased.{bias}
-use Rattle.probe.specs.Laws.About.{beyondb, rimb, beyond_shows, rim_many, inner_bounds, inner_tells, tells_mixed}
+use Rattle.probe.specs.Laws.About.{beyondb, rimb, beyond_shows, rim_many, inner_bounds, inner-within, inner_tells}
 use Rattle.probe.proofs.square.look_about.Goals as goal
 
 pub returns-then-row-side : goal.returns-then-row-side
@@ -19,8 +18,7 @@ inner c = rw (c.side-side.ensures.is, c.side-end.ensures.is) at c.if-row-column.
 
 pub returns-then-row-column : goal.returns-then-row-column
 returns-then-row-column c =
-    tells_mixed _ _ _ _ _ c.requires.1
-    (rim_many c.args.map.now.n c.args.map.now.list.now _ _ _ (apart (goal.at.returns-then-row-column c).Else-row-side) (rw (c.side-side.ensures.is, c.side-end.ensures.is) at c.if-row-column.true))
+    rim_many c.args.map.now.n c.args.map.now.list.now _ _ _ (apart (goal.at.returns-then-row-column c).Else-row-side) (rw (c.side-side.ensures.is, c.side-end.ensures.is) at c.if-row-column.true)
 
 bounds : (c : Else-row-column) →
     let q = c.args.square in
@@ -29,4 +27,4 @@ bounds : (c : Else-row-column) →
 bounds c = let q = c.args.square in inner_bounds q.row q.column (2 ^ q.level) (bias + 2 ^ c.args.map.now.n) (inner c)
 
 pub returns : goal.returns
-returns c = inner_tells _ _ _ _ _ (inner (goal.at.returns c).Else-row-column) (seen_of c.look.result) c.look.ensures
+returns c = inner_tells _ _ _ _ _ (inner (goal.at.returns c).Else-row-column) c.look.result c.look.ensures

@@ -1,17 +1,19 @@
 -- `painter::View::shown` meets its contract: settled early by what was known of the second map, or by what both maps tell.
-use Rattle.probe.specs.Seen.{seen_of}
 use Rattle.probe.specs.Laws.About.{tells_holds}
 use Rattle.painter.specs.View.{scene_of, first_of, second_of}
 use Rattle.painter.specs.Laws.Settling.{early_told, both_told}
 use Rattle.painter.proofs.scene.View.shown.Goals as goal
 
-pub returns-then-early-lt-COLOURS : goal.returns-then-early-lt-COLOURS
-returns-then-early-lt-COLOURS c =
+pub returns-in-One : goal.returns-in-One
+returns-in-One c =
     let g = c.ask-first in
-    let j = c.joint-early in
-    let k = tells_holds _ _ _ _ (seen_of g.result) g.ensures in
+    let k = tells_holds _ _ _ _ g.result g.ensures in
     let v = c.args.self.now in
-    record { knows = record { first = k; second = c.requires.second }; shows = early_told (scene_of v) (first_of v) (second_of v) _ _ _ (seen_of g.result) (seen_of c.args.known.second) j.result c.if-early-lt-COLOURS.true k c.requires.second j.ensures }
+    let e = c.in-One.is in
+    record {
+      knows = record { first = k; second = c.requires.second };
+      shows = rw e (early_told (scene_of v) (first_of v) (second_of v) _ _ _ g.result c.args.known.second c.in-One.field-0 k c.requires.second (rw e at c.joint-early.ensures));
+    }
 
 pub returns : goal.returns
 returns c =
@@ -20,6 +22,6 @@ returns c =
     let j = c.joint-all in
     let v = c.args.self.now in
     record {
-      knows = record { first = tells_holds _ _ _ _ (seen_of g.result) g.ensures; second = tells_holds _ _ _ _ (seen_of h.result) h.ensures };
-      shows = both_told (scene_of v) (first_of v) (second_of v) _ _ _ (seen_of g.result) (seen_of h.result) (seen_of j.result) g.ensures h.ensures j.ensures;
+      knows = record { first = tells_holds _ _ _ _ g.result g.ensures; second = tells_holds _ _ _ _ h.result h.ensures };
+      shows = both_told (scene_of v) (first_of v) (second_of v) _ _ _ g.result h.result j.result g.ensures h.ensures j.ensures;
     }
