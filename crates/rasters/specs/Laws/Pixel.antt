@@ -13,7 +13,7 @@ use Rattle.tiling.specs.Leaf.{colours}
 use Rattle.shortest.specs.Part.{part}
 use Rattle.shortest.specs.Walk.{Quarter}
 use Rattle.shortest.specs.Written.{inner, Placed}
-use Rattle.shortest.proofs.Part.{part_cell}
+use Rattle.shortest.proofs.Parts.{part_cell}
 use Rattle.shortest.proofs.Written.{cell_inner}
 use Rattle.std.proofs.lemmas.List.Edits.{sets}
 use Rattle.shortest.proofs.Steps.{Closed}

@@ -5,6 +5,7 @@ use Rattle.std.proofs.Math.Path.{◌∙◌}
 use Rattle.std.proofs.Common.{rules, refl, ap, ◌≡◌, arith, List, ℕ, ◌+◌, ◌-◌}
 use Rattle.std.proofs.lemmas.List.Edits.{sets}
 use Rattle.shortest.specs.Part.{size_of}
+use Rattle.shortest.specs.Coded.{number_of}
 use Rattle.shortest.specs.Written.{inner, Placed}
 use Rattle.shortest.specs.Laws.Quarters.{Ready}
 use Rattle.shortest.proofs.Steps.{Closed, Done, place_nw, place_ne, place_sw, place_se, fits_ne, fits_sw, fits_se, all_done, all_part, all_wrote, placed_same, finishes_same, finished_same}
@@ -34,28 +35,28 @@ module _ (g : Over) (t : ℕ) where
       let m = g.P.Picture in
       let d = c.in-Closer.block in
       let q = c.quarters-quarter.result.nw in
-      Done (m.colour_at c.args.picture.now) (m.code_of d) (m.level_of d) 0 (m.code_of q) (m.level_of q) c.draw.new.out c.put-nw.new.out c.args.at c.put-nw.result c.size.result
+      Done (m.colour_at c.args.picture.now) (m.code_of d) (m.level_of d) 0 (m.code_of q) (m.level_of q) c.draw.new.out c.put-nw.new.out c.args.at (number_of c.put-nw.result) c.size.result
   done₀ c = let p = c.put-nw in record { quarter = c.quarters-quarter.ensures.nw.1; is = p.ensures.part; wrote = p.ensures.left; kept = p.auto.out; size = c.size.ensures }
 
   done₁ : (c : After-size-in-Closer g t) →
       let m = g.P.Picture in
       let d = c.in-Closer.block in
       let q = c.quarters-quarter.result.ne in
-      Done (m.colour_at c.args.picture.now) (m.code_of d) (m.level_of d) 1 (m.code_of q) (m.level_of q) c.put-nw.new.out c.put-ne.new.out (c.args.at + c.size.result) c.put-ne.result c.size-in-Closer.result
+      Done (m.colour_at c.args.picture.now) (m.code_of d) (m.level_of d) 1 (m.code_of q) (m.level_of q) c.put-nw.new.out c.put-ne.new.out (c.args.at + c.size.result) (number_of c.put-ne.result) c.size-in-Closer.result
   done₁ c = let p = c.put-ne in record { quarter = c.quarters-quarter.ensures.ne.1; is = p.ensures.part; wrote = p.ensures.left; kept = p.auto.out; size = c.size-in-Closer.ensures }
 
   done₂ : (c : After-size-in-Closer-2 g t) →
       let m = g.P.Picture in
       let d = c.in-Closer.block in
       let q = c.quarters-quarter.result.sw in
-      Done (m.colour_at c.args.picture.now) (m.code_of d) (m.level_of d) 2 (m.code_of q) (m.level_of q) c.put-ne.new.out c.put-sw.new.out (c.args.at + c.size.result + c.size-in-Closer.result) c.put-sw.result c.size-in-Closer-2.result
+      Done (m.colour_at c.args.picture.now) (m.code_of d) (m.level_of d) 2 (m.code_of q) (m.level_of q) c.put-ne.new.out c.put-sw.new.out (c.args.at + c.size.result + c.size-in-Closer.result) (number_of c.put-sw.result) c.size-in-Closer-2.result
   done₂ c = let p = c.put-sw in record { quarter = c.quarters-quarter.ensures.sw.1; is = p.ensures.part; wrote = p.ensures.left; kept = p.auto.out; size = c.size-in-Closer-2.ensures }
 
   done₃ : (c : After-put-se g t) →
       let m = g.P.Picture in
       let d = c.in-Closer.block in
       let q = c.quarters-quarter.result.se in
-      Done (m.colour_at c.args.picture.now) (m.code_of d) (m.level_of d) 3 (m.code_of q) (m.level_of q) c.put-sw.new.out c.put-se.new.out (c.args.at + c.size.result + c.size-in-Closer.result + c.size-in-Closer-2.result) c.put-se.result (size_of c.put-se.result)
+      Done (m.colour_at c.args.picture.now) (m.code_of d) (m.level_of d) 3 (m.code_of q) (m.level_of q) c.put-sw.new.out c.put-se.new.out (c.args.at + c.size.result + c.size-in-Closer.result + c.size-in-Closer-2.result) (number_of c.put-se.result) (size_of (number_of c.put-se.result))
   done₃ c = let p = c.put-se in record { quarter = c.quarters-quarter.ensures.se.1; is = p.ensures.part; wrote = p.ensures.left; kept = p.auto.out; size = refl }
 
 pub put-nw-requires : goal.put-nw-requires
@@ -97,7 +98,7 @@ put-se-requires g t c κs within =
 module _ (g : Over) (t : ℕ) where
   all : (c : After-put-se g t) →
       let m = g.P.Picture in
-      Ready (m.colour_at c.args.picture.now) c.draw.new.out c.put-se.new.out c.args.at (m.level_of c.args.block - 1) (m.code_of c.args.block) c.put-nw.result c.put-ne.result c.put-sw.result c.put-se.result
+      Ready (m.colour_at c.args.picture.now) c.draw.new.out c.put-se.new.out c.args.at (m.level_of c.args.block - 1) (m.code_of c.args.block) (number_of c.put-nw.result) (number_of c.put-ne.result) (number_of c.put-sw.result) (number_of c.put-se.result)
   all c =
       let h = (goal.at.After-put-se g t c).After-quarters-quarter in
       all_done (closed g t h) (start g t h) (done₀ g t (goal.at.After-put-se g t c).After-size) (done₁ g t (goal.at.After-put-se g t c).After-size-in-Closer) (done₂ g t (goal.at.After-put-se g t c).After-size-in-Closer-2) (done₃ g t c)
