@@ -7,7 +7,7 @@
 // Read first: specs/Shortest.antt, and specs/Demand.antt for what is proved of it; then `finish`.
 #![tactic(auto)]
 
-ghost use Rattle.std.specs.Prelude.{◌≡◌, ◌+◌, ◌^◌, ◌≤◌};
+ghost use Rattle.std.specs.Prelude.{◌≡◌, eqb, ◌+◌, ◌^◌, ◌≤◌};
 ghost use Rattle.morton.specs.Power.{highest};
 ghost use Rattle.shortest.specs.Part.{is_one, size_of, merge, joined};
 ghost use Rattle.shortest.specs.Coded.{number_of};
@@ -39,11 +39,21 @@ impl Part {
     }
 
     // Whether it is one colour.
-    fn is_colour(self) -> bool
+    fn is_one(self) -> bool
         ensures { result ≡ is_one (number_of self) }
     {
         match self {
             Part::Colour(_) => true,
+            Part::Leaves(_) => false,
+        }
+    }
+
+    // Whether it is this colour.
+    fn is_colour(self, colour: u8) -> bool
+        ensures { result ≡ eqb (number_of self) colour }
+    {
+        match self {
+            Part::Colour(own) => own == colour,
             Part::Leaves(_) => false,
         }
     }
@@ -54,8 +64,12 @@ impl Part {
 fn merge(parts: Four<Part>) -> bool
     ensures { result ≡ merge (number_of parts.nw) (number_of parts.ne) (number_of parts.sw) (number_of parts.se) }
 {
-    let first = parts.nw;
-    first.is_colour() & (parts.ne == first) & (parts.sw == first) & (parts.se == first)
+    match parts.nw {
+        Part::Colour(first) => {
+            parts.ne.is_colour(first) & parts.sw.is_colour(first) & parts.se.is_colour(first)
+        }
+        Part::Leaves(_) => false,
+    }
 }
 
 // The part of a block, from its quarters'.
@@ -104,7 +118,7 @@ pub fn finish(out: &mut [u64], at: u64, parts: Four<Part>, code: u64, level: u64
     ensures left { out.new ≡ finished out.old at (number_of parts.nw) (number_of parts.ne) (number_of parts.sw) (number_of parts.se) code level }
 {
     let part = joined(parts);
-    if part.is_colour() {
+    if part.is_one() {
         return part;
     }
     settle(out, at, parts, code, level);
