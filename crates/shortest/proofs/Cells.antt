@@ -1,5 +1,5 @@
 -- Four cells of a picture f, the first of them at the code k, as the quarters of their block.
-use Rattle.std.specs.Prelude.{◌≡◌, List, ℕ, ◌+◌, ◌*◌, ◌^◌, ◌<◌, ◌≤◌}
+use Rattle.std.specs.Prelude.{◌≡◌, List, ℕ, ◌+◌, ◌^◌, ◌<◌, ◌≤◌}
 use Rattle.std.proofs.Common.{refl, sym, ◌∙◌, arith}
 use Rattle.morton.specs.Power.{highest}
 use Rattle.tiling.specs.Leaf.{colours}

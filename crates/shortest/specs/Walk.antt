@@ -1,5 +1,7 @@
 -- What is promised of a step of the walk down a picture.
-use Rattle.std.specs.Prelude.{◌≡◌, ℕ, ◌+◌, ◌*◌, ◌-◌, ◌^◌}
+use Rattle.std.specs.Prelude.{◌≡◌, ℕ, ◌+◌, ◌*◌, ◌-◌, ◌^◌, ◌≤◌, ◌<◌}
+use Rattle.morton.specs.Power.{highest}
+use Rattle.tiling.specs.Leaf.{colours}
 use Rattle.shortest.specs.declared.Part.{Part}
 use Rattle.shortest.specs.declared.walk.Look.{Look}
 use Rattle.shortest.specs.declared.walk.Look.TheVariants.{Part as Whole, Closer}
@@ -13,3 +15,10 @@ Sees (Closer b) P Q = Q b
 pub record Quarter (k L i c l : ℕ) : Type 0 where
   pub code : c ≡ k + i * 4 ^ (L - 1)
   pub level : l ≡ L - 1
+
+-- the block of level L at the code k of the picture f has quarters, and lies within the largest square; colours are below 256
+pub record Divisible (f : ℕ → ℕ) (L k : ℕ) : Type 0 where
+  pub coloured : (j : ℕ) → f j < colours
+  pub some : 0 < L
+  pub low : L ≤ highest
+  pub codes : k + 4 ^ L ≤ 4 ^ highest

@@ -72,26 +72,36 @@ ghost use Rattle.std.proofs.lemmas.List.Edits.{sets};
 ghost use Rattle.shortest.specs.Part.{part};
 ghost use Rattle.shortest.specs.Coded.{number_of};
 ghost use Rattle.shortest.specs.Written.{inner, Placed};
+ghost use Rattle.shortest.specs.Walk.{Divisible};
 
 // What a block comes to.
+#[cycle(counts)]
 pub fn count<P: Picture>(picture: &P, block: P::Block) -> Part
     requires { P.Lies picture.now block }
     ensures { number_of result ≡ part (P.colour_at picture.now) (P.level_of block) (P.code_of block) }
 {
     match picture.look(block) {
         Look::Part(part) => part,
-        Look::Closer(block) => {
-            let quarter = picture.quarters(block);
-            let nw = count(picture, quarter.nw);
-            let ne = count(picture, quarter.ne);
-            let sw = count(picture, quarter.sw);
-            let se = count(picture, quarter.se);
-            joined(Four { nw, ne, sw, se })
-        }
+        Look::Closer(block) => count_quarters(picture, block),
     }
 }
 
+// The same of a block whose quarters are to be looked at. It stands apart since most blocks need no memory for quarters.
+#[cycle(counts)]
+fn count_quarters<P: Picture>(picture: &P, block: P::Block) -> Part
+    requires { P.Opens picture.now block × Divisible (P.colour_at picture.now) (P.level_of block) (P.code_of block) }
+    ensures { number_of result ≡ part (P.colour_at picture.now) (P.level_of block) (P.code_of block) }
+{
+    let quarter = picture.quarters(block);
+    let nw = count(picture, quarter.nw);
+    let ne = count(picture, quarter.ne);
+    let sw = count(picture, quarter.sw);
+    let se = count(picture, quarter.se);
+    joined(Four { nw, ne, sw, se })
+}
+
 // Writes the list of a block from `at` on, or nothing if it is of one colour; what the block comes to.
+#[cycle(puts)]
 pub fn put<P: Picture>(picture: &P, block: P::Block, out: &mut [u64], at: u64) -> Part
     requires { P.Lies picture.now block × Placed (P.colour_at picture.now) out.old at (P.level_of block) (P.code_of block) }
     ensures part { number_of result ≡ part (P.colour_at picture.now) (P.level_of block) (P.code_of block) }
@@ -99,22 +109,25 @@ pub fn put<P: Picture>(picture: &P, block: P::Block, out: &mut [u64], at: u64) -
 {
     match picture.draw(block, out, at) {
         Look::Part(part) => part,
-        Look::Closer(block) => {
-            let quarter = picture.quarters(block);
-            let nw = put(picture, quarter.nw, out, at);
-            let at1 = at + nw.size();
-            let ne = put(picture, quarter.ne, out, at1);
-            let at2 = at1 + ne.size();
-            let sw = put(picture, quarter.sw, out, at2);
-            let at3 = at2 + sw.size();
-            let se = put(picture, quarter.se, out, at3);
-            finish(
-                out,
-                at,
-                Four { nw, ne, sw, se },
-                P::code(block),
-                P::level(block) - 1,
-            )
-        }
+        Look::Closer(block) => put_quarters(picture, block, out, at),
     }
+}
+
+// The same of a block whose quarters are to be looked at, apart for the same reason.
+#[cycle(puts)]
+fn put_quarters<P: Picture>(picture: &P, block: P::Block, out: &mut [u64], at: u64) -> Part
+    requires { P.Opens picture.now block × Divisible (P.colour_at picture.now) (P.level_of block) (P.code_of block) × Placed (P.colour_at picture.now) out.old at (P.level_of block) (P.code_of block) }
+    ensures part { number_of result ≡ part (P.colour_at picture.now) (P.level_of block) (P.code_of block) }
+    ensures left { out.new ≡ sets out.old at (inner (P.colour_at picture.now) (P.level_of block) (P.code_of block)) }
+{
+    let quarter = picture.quarters(block);
+    let nw = put(picture, quarter.nw, out, at);
+    let at1 = at + nw.size();
+    let ne = put(picture, quarter.ne, out, at1);
+    let at2 = at1 + ne.size();
+    let sw = put(picture, quarter.sw, out, at2);
+    let at3 = at2 + sw.size();
+    let se = put(picture, quarter.se, out, at3);
+    let parts = Four { nw, ne, sw, se };
+    finish(out, at, parts, P::code(block), P::level(block) - 1)
 }

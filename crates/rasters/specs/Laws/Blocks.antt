@@ -1,7 +1,7 @@
 -- Rows of a raster, one after another and block by block.
 use Rattle.std.specs.Prelude.{◌≡◌, refl, List, ℕ, suc, ◌+◌, ◌-◌, ◌*◌, ◌/◌, ◌%◌, ◌^◌, ◌<◌, ◌≤◌, get_or}
 use Rattle.std.proofs.Common.{sym, ap, ap₂, ◌∙◌, mod-lt, div-add-mod', mul-le-mul_right, add-mul, subst, arith, pow_pos, pow_mono, shr_lt}
-use Rattle.std.proofs.Math.Nat.{pow-succ', zero-mod, add-mul-mod_self_right, pow-le-pow_right}
+use Rattle.std.proofs.Math.Nat.{pow-succ', pow-le-pow_right}
 use Rattle.std.proofs.Math.Decide.{dec_lt}
 use Rattle.morton.specs.Block.{Block as IsBlock, Quartered}
 use Rattle.morton.specs.Code.{code, row_of, column_of}
@@ -10,7 +10,7 @@ use Rattle.morton.specs.declared.block.Block.{Block}
 use Rattle.morton.specs.Laws.Cell.{cell_of-code, cell_inside}
 use Rattle.morton.specs.Laws.Code.{code_inside}
 use Rattle.morton.specs.Laws.Power.{two_four, exponent_le}
-use Rattle.morton.specs.Laws.Quarter.{aligned_place, halved}
+use Rattle.morton.specs.Laws.Quarter.{aligned_place}
 use Rattle.morton.specs.Laws.Square.{stays}
 use Rattle.tiling.specs.Map.{colour_at}
 use Rattle.probe.specs.Seen.{Covers}

@@ -1,7 +1,7 @@
 -- `painter::write` meets its contract: the whole window is a block, and its leaf is stored if it is of one colour.
 use Rattle.painter.proofs.painting.write.Goals.{After-put-part}
 use Rattle.std.proofs.Math.Path.{◌≡◌, ◌∙◌}
-use Rattle.std.proofs.Common.{rules, ℕ}
+use Rattle.std.proofs.Common.{rules}
 use Rattle.shortest.specs.Part.{part}
 use Rattle.shortest.specs.Coded.{number_of}
 use Rattle.shortest.specs.Laws.Outcome.{whole-placed, whole_fills, whole-left, whole-size}

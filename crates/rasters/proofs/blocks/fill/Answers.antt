@@ -1,6 +1,5 @@
 -- `rasters::fill` meets its contract: the whole raster is a block.
 use Rattle.std.proofs.Math.Path.{◌∙◌}
-use Rattle.std.proofs.Common.{rules}
 use Rattle.rasters.specs.Laws.Blocks.{whole_rows_at}
 use Rattle.rasters.specs.Laws.Places.{raster_by_cell}
 use Rattle.rasters.proofs.blocks.fill.Goals as goal

@@ -1,5 +1,5 @@
 -- `rasters::Filler::put_tile` meets its contract: row by row.
-use Rattle.std.proofs.Common.{refl, arith, ap, ℕ, ◌+◌, ◌*◌, ◌^◌}
+use Rattle.std.proofs.Common.{refl, arith, ap, ℕ, ◌+◌, ◌*◌}
 use Rattle.rasters.specs.Blocks.{tile_cell}
 use Rattle.rasters.specs.Laws.Blocks.{rows_more, row_fits, tile_row}
 use Rattle.rasters.proofs.blocks.Filler.put_tile.Goals as goal

@@ -1,8 +1,8 @@
 -- `rasters::Raster::four` meets its contract: the four cells follow one another in the order of their codes.
-use Rattle.std.proofs.Common.{ap, arith}
+use Rattle.std.proofs.Common.{ap}
 use Rattle.std.proofs.Math.Path.{◌∙◌}
 use Rattle.rasters.specs.Raster.{pixel}
-use Rattle.rasters.specs.Laws.Pixel.{four_pixels, four_codes}
+use Rattle.rasters.specs.Laws.Pixel.{four_codes}
 use Rattle.rasters.proofs.listing.Raster.four.Goals as goal
 
 pub returns : goal.returns

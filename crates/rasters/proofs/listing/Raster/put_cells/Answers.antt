@@ -1,6 +1,6 @@
 -- `rasters::Raster::put_cells` meets its contract: the four cells write nothing by themselves, and `finish` stores them unless they merge.
 use Rattle.rasters.proofs.listing.Raster.put_cells.Goals.{After-four}
-use Rattle.std.proofs.Common.{sym, ap, subst, List, ℕ}
+use Rattle.std.proofs.Common.{sym, ap, subst, ℕ}
 use Rattle.std.proofs.Math.Path.{◌∙◌}
 use Rattle.std.proofs.lemmas.List.Edits.{sets}
 use Rattle.shortest.specs.Part.{part}

@@ -1,18 +1,18 @@
 -- `rasters::Raster::put_squares` meets its contract: each square of four cells is written after those before it, and `finish` makes the block of them.
 use Rattle.rasters.proofs.listing.Raster.put_squares.Goals.{After-quarters-quarter, After-size, After-size-2, After-size-3, After-put_cells-se}
 use Rattle.std.proofs.Math.Path.{◌∙◌}
-use Rattle.std.proofs.Common.{refl, sym, rules, arith, ap, List, ℕ, ◌+◌, ◌-◌}
-use Rattle.std.proofs.lemmas.List.Edits.{sets}
+use Rattle.std.proofs.Common.{refl, rules, arith, ◌+◌, ◌-◌}
 use Rattle.shortest.specs.Part.{size_of}
 use Rattle.shortest.specs.Coded.{number_of}
 use Rattle.shortest.specs.Laws.Quarters.{Ready}
-use Rattle.shortest.proofs.Steps.{Closed, Done, place_nw, place_ne, place_sw, place_se, fits_ne, fits_sw, fits_se, all_done, all_part, all_wrote, finishes_same, finished_same}
+use Rattle.shortest.proofs.Steps.{Done, place_nw, place_ne, place_sw, place_se, fits_ne, fits_sw, fits_se, all_done, all_part, all_wrote, finishes_same, finished_same}
+use Rattle.shortest.specs.Walk.{Divisible}
 use Rattle.rasters.specs.Raster.{pixel}
-use Rattle.rasters.specs.Laws.Pixel.{quarter_of, closed}
+use Rattle.rasters.specs.Laws.Pixel.{quarter_of, divisible}
 use Rattle.rasters.proofs.listing.Raster.put_squares.Goals as goal
 
-opened : (c : After-quarters-quarter) → let r = c.args.self.now in let b = c.args.block in Closed (pixel r.n r.cells.now) b.level b.code b.code b.level
-opened c = let r = c.args.self.now in closed r.n r.cells.now r.bytes c.args.block (omega (arith, c.requires.1))
+opened : (c : After-quarters-quarter) → let r = c.args.self.now in let b = c.args.block in Divisible (pixel r.n r.cells.now) b.level b.code
+opened c = let r = c.args.self.now in divisible r.n r.cells.now r.bytes c.args.block (omega (arith, c.requires.1))
 
 -- what is left of each quarter
 done₀ : (c : After-size) →
