@@ -4,6 +4,7 @@ ghost use Rattle.morton.specs.Power.{highest};
 ghost use Rattle.std.proofs.lemmas.List.Edits.{sets};
 ghost use Rattle.shortest.specs.Shortest.{shortest};
 ghost use Rattle.shortest.specs.Part.{part};
+ghost use Rattle.shortest.specs.Coded.{number_of};
 ghost use Rattle.shortest.specs.Written.{inner, Placed};
 ghost use Rattle.painter.specs.Scene.{picture};
 ghost use Rattle.painter.specs.Painting.{Paints, Writes};
@@ -11,7 +12,7 @@ ghost use Rattle.painter.specs.Painting.{Paints, Writes};
 use super::scene::{Known, Scene, View};
 use morton::{Block, Four};
 use probe::Seen;
-use shortest::Picture;
+use shortest::{Look, Part, Picture};
 use tiles::Tile;
 
 // A block of the window, and what is known of the maps over it.
@@ -25,9 +26,9 @@ impl<'a> View<'a> {
     ghost use Rattle.painter.specs.View.{picture_in, KnowsOver, TiledOver};
 
     // What the tile over a block comes to.
-    fn count_tile(&self, known: Known, block: Block) -> u64
+    fn count_tile(&self, known: Known, block: Block) -> Part
         requires { KnowsOver self.now known block × TiledOver self.now known block }
-        ensures { result ≡ part (picture_in self.now) block.level block.code }
+        ensures { number_of result ≡ part (picture_in self.now) block.level block.code }
     {
         let mut cells = [0; 256];
         self.tile(known, block, &mut cells);
@@ -39,9 +40,9 @@ impl<'a> View<'a> {
     }
 
     // Writes the list of the tile from `at` on, or nothing if it is of one colour; what the tile comes to.
-    fn put_tile(&self, known: Known, block: Block, out: &mut [u64], at: u64) -> u64
+    fn put_tile(&self, known: Known, block: Block, out: &mut [u64], at: u64) -> Part
         requires { KnowsOver self.now known block × TiledOver self.now known block × Placed (picture_in self.now) out.old at block.level block.code }
-        ensures part { result ≡ part (picture_in self.now) block.level block.code }
+        ensures part { number_of result ≡ part (picture_in self.now) block.level block.code }
         ensures left { out.new ≡ sets out.old at (inner (picture_in self.now) block.level block.code) }
     {
         let mut cells = [0; 256];
@@ -82,30 +83,30 @@ impl<'a> Picture for View<'a> {
         glance.block.level
     }
 
-    fn look(&self, glance: Glance) -> shortest::Seen<Glance> {
+    fn look(&self, glance: Glance) -> Look<Glance> {
         let block = glance.block;
         let seen = self.shown(glance.known, block);
         if let Seen::One(colour) = seen.all {
-            return shortest::Seen::Part(colour as u64);
+            return Look::Part(Part::Colour(colour));
         }
         let known = seen.known;
         if self.tiled(known, block) {
-            return shortest::Seen::Part(self.count_tile(known, block));
+            return Look::Part(self.count_tile(known, block));
         }
-        shortest::Seen::Closer(Glance { block, known })
+        Look::Closer(Glance { block, known })
     }
 
-    fn draw(&self, glance: Glance, out: &mut [u64], at: u64) -> shortest::Seen<Glance> {
+    fn draw(&self, glance: Glance, out: &mut [u64], at: u64) -> Look<Glance> {
         let block = glance.block;
         let seen = self.shown(glance.known, block);
         if let Seen::One(colour) = seen.all {
-            return shortest::Seen::Part(colour as u64);
+            return Look::Part(Part::Colour(colour));
         }
         let known = seen.known;
         if self.tiled(known, block) {
-            return shortest::Seen::Part(self.put_tile(known, block, out, at));
+            return Look::Part(self.put_tile(known, block, out, at));
         }
-        shortest::Seen::Closer(Glance { block, known })
+        Look::Closer(Glance { block, known })
     }
 
     fn quarters(&self, glance: Glance) -> Four<Glance> {
@@ -144,7 +145,7 @@ pub fn leaves(s: Scene, a: &[u64], b: &[u64], w: u64) -> u64
     ensures { result ≡ length (shortest (picture s a.now b.now) w 0) }
 {
     let view = View::new(s, a, b);
-    shortest::size(shortest::count(&view, whole(w)))
+    shortest::count(&view, whole(w)).size()
 }
 
 // Writes the shortest list of a window of size w, for which there is room, and says how many leaves it has.
@@ -156,5 +157,5 @@ pub fn write(s: Scene, a: &[u64], b: &[u64], w: u64, out: &mut [u64]) -> u64
     let view = View::new(s, a, b);
     let part = shortest::put(&view, whole(w), out, 0);
     shortest::fill(out, 0, part, 0, w);
-    shortest::size(part)
+    part.size()
 }

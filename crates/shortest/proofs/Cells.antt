@@ -6,7 +6,7 @@ use Rattle.tiling.specs.Leaf.{colours}
 use Rattle.shortest.specs.Part.{part, size_of, joined}
 use Rattle.shortest.specs.Written.{Placed}
 use Rattle.shortest.specs.Laws.Quarters.{Wrote, Ready, four_sizes}
-use Rattle.shortest.proofs.Part.{part_cell}
+use Rattle.shortest.proofs.Parts.{part_cell}
 use Rattle.shortest.proofs.Quarters.{four_counted, ready}
 use Rattle.shortest.proofs.Written.{cell_inner}
 

@@ -3,7 +3,7 @@ pub mod Paint
 pub mod Demand
 pub mod Only
 pub mod Promises
-pub mod Part
+pub mod Parts
 pub mod Written
 pub mod Quarters
 pub mod Same

@@ -9,7 +9,7 @@ use Rattle.shortest.specs.Written.{inner, finished, Finishes, Placed}
 use Rattle.shortest.specs.Laws.Part.{many_size, merge-same, joined-sizes, not_merged, part_small}
 use Rattle.shortest.proofs.Written.{four_finished}
 use Rattle.shortest.specs.Laws.Quarters.{Wrote, Ready}
-use Rattle.shortest.proofs.Part.{part-joined}
+use Rattle.shortest.proofs.Parts.{part-joined}
 
 module _ (f : ℕ → ℕ) (coloured : (j : ℕ) → f j < colours) (o : List ℕ) (at L k : ℕ) (h : Placed f o at (suc L) k) where
   abbrev p₀ : ℕ

@@ -1,45 +1,31 @@
--- One step of the walk down a picture f: the quarters of a block of level L at the code k, which is looked at closer as the block of
--- level M at the code K.
+-- One step of the walk down a picture f: the quarters of a block of level L at the code k.
 use Rattle.std.specs.Prelude.{◌≡◌, List, ℕ, suc, ◌+◌, ◌*◌, ◌-◌, ◌^◌, ◌≤◌, ◌<◌, length}
-use Rattle.std.proofs.Common.{refl, ap, ◌∙◌, arith}
+use Rattle.std.proofs.Common.{refl, sym, ap, ◌∙◌, arith}
 use Rattle.std.proofs.lemmas.List.Edits.{sets}
 use Rattle.morton.specs.Power.{highest}
-use Rattle.tiling.specs.Leaf.{colours}
 use Rattle.shortest.specs.Part.{part, size_of, joined}
 use Rattle.shortest.specs.Written.{inner, finished, Finishes, Placed}
-use Rattle.shortest.specs.Walk.{Quarter}
+use Rattle.shortest.specs.Walk.{Quarter, Divisible}
 use Rattle.shortest.specs.Laws.Power.{pow_four}
 use Rattle.shortest.specs.Laws.Quarters.{Wrote, Ready, four_sizes, placed-suc}
 use Rattle.shortest.proofs.Quarters.{ready, placed_nw, placed_ne, placed_sw, placed_se, small₁, small₂, small₃, four_counted}
 
--- the block is no single cell, and is the same block when it is looked at closer
-pub record Closed (f : ℕ → ℕ) (L k K M : ℕ) : Type 0 where
-  pub coloured : (j : ℕ) → f j < colours
-  pub some : 0 < L
-  pub same_level : M ≡ L
-  pub same_code : K ≡ k
-  pub low : L ≤ highest
-  pub codes : k + 4 ^ L ≤ 4 ^ highest
-
 -- what the walk leaves of the quarter i, of level l at the code c
-pub record Done (f : ℕ → ℕ) (K M i c l : ℕ) (o o' : List ℕ) (at r s : ℕ) : Type 0 where
-  pub quarter : Quarter K M i c l
+pub record Done (f : ℕ → ℕ) (k L i c l : ℕ) (o o' : List ℕ) (at r s : ℕ) : Type 0 where
+  pub quarter : Quarter k L i c l
   pub is : r ≡ part f l c
   pub wrote : o' ≡ sets o at (inner f l c)
   pub kept : length o' ≡ length o
   pub size : s ≡ size_of r
 
--- the same of equal memory, codes and levels
-pub placed_same : {f : ℕ → ℕ} {o o' : List ℕ} {at L k : ℕ} → o' ≡ o → Placed f o at L k → Placed f o' at L k
-placed_same e h = rw e h
-
+-- the same of equal codes and levels
 pub finishes_same : {o : List ℕ} {at r₀ r₁ r₂ r₃ k l k' l' : ℕ} → k' ≡ k → l' ≡ l → Finishes o at r₀ r₁ r₂ r₃ k l → Finishes o at r₀ r₁ r₂ r₃ k' l'
 finishes_same e d h = rw (e, d) h
 
 pub finished_same : (o : List ℕ) (at r₀ r₁ r₂ r₃ k l k' l' : ℕ) → k' ≡ k → l' ≡ l → finished o at r₀ r₁ r₂ r₃ k' l' ≡ finished o at r₀ r₁ r₂ r₃ k l
 finished_same o at r₀ r₁ r₂ r₃ k l k' l' e d = rw (e, d) refl
 
-module _ {f : ℕ → ℕ} {L k K M : ℕ} (z : Closed f L k K M) where
+module _ {f : ℕ → ℕ} {L k : ℕ} (z : Divisible f L k) where
   up : suc (L - 1) ≡ L
   up = omega (arith, z.some)
 
@@ -47,15 +33,15 @@ module _ {f : ℕ → ℕ} {L k K M : ℕ} (z : Closed f L k K M) where
   four_codes = omega (arith, ap (λ (x : ℕ). 4 ^ x) up, pow_four (L - 1), z.codes)
 
   -- a quarter's level and code, and so its part
-  place : {i c l : ℕ} (t : ℕ) → Quarter K M i c l → t ≡ k + i * 4 ^ (L - 1) → (c ≡ t) × (l ≡ L - 1)
-  place t q e = (q.code ∙ rw (z.same_level, z.same_code, e) refl, q.level ∙ ap (λ (x : ℕ). x - 1) z.same_level)
+  place : {i c l : ℕ} (t : ℕ) → Quarter k L i c l → t ≡ k + i * 4 ^ (L - 1) → (c ≡ t) × (l ≡ L - 1)
+  place t q e = (q.code ∙ sym e, q.level)
 
-  its_part : {i c l r : ℕ} (t : ℕ) → Quarter K M i c l → t ≡ k + i * 4 ^ (L - 1) → r ≡ part f l c → r ≡ part f (L - 1) t
+  its_part : {i c l r : ℕ} (t : ℕ) → Quarter k L i c l → t ≡ k + i * 4 ^ (L - 1) → r ≡ part f l c → r ≡ part f (L - 1) t
   its_part t q e h = let p = place t q e in rw (p.0, p.1) at h
 
   -- the four, counted
   module _ {c₀ l₀ r₀ c₁ l₁ r₁ c₂ l₂ r₂ c₃ l₃ r₃ : ℕ}
-      (q₀ : Quarter K M 0 c₀ l₀) (q₁ : Quarter K M 1 c₁ l₁) (q₂ : Quarter K M 2 c₂ l₂) (q₃ : Quarter K M 3 c₃ l₃)
+      (q₀ : Quarter k L 0 c₀ l₀) (q₁ : Quarter k L 1 c₁ l₁) (q₂ : Quarter k L 2 c₂ l₂) (q₃ : Quarter k L 3 c₃ l₃)
       (e₀ : r₀ ≡ part f l₀ c₀) (e₁ : r₁ ≡ part f l₁ c₁) (e₂ : r₂ ≡ part f l₂ c₂) (e₃ : r₃ ≡ part f l₃ c₃) where
     nw : r₀ ≡ part f (L - 1) k
     nw = its_part k q₀ (omega arith) e₀
@@ -76,10 +62,10 @@ module _ {f : ℕ → ℕ} {L k K M : ℕ} (z : Closed f L k K M) where
     counted_part = four_counted f z.coloured L k z.some r₀ r₁ r₂ r₃ nw ne sw se
 
   -- a quarter is placed, and has been written, where its level and its code say
-  placed : {i c l : ℕ} (t : ℕ) {o : List ℕ} {at : ℕ} → Quarter K M i c l → t ≡ k + i * 4 ^ (L - 1) → Placed f o at (L - 1) t → Placed f o at l c
+  placed : {i c l : ℕ} (t : ℕ) {o : List ℕ} {at : ℕ} → Quarter k L i c l → t ≡ k + i * 4 ^ (L - 1) → Placed f o at (L - 1) t → Placed f o at l c
   placed t q e h = let p = place t q e in rw (p.0, p.1) h
 
-  done : {i c l : ℕ} (t : ℕ) {o o' : List ℕ} {at r s : ℕ} → t ≡ k + i * 4 ^ (L - 1) → Done f K M i c l o o' at r s → Wrote f (L - 1) t o o' at r s
+  done : {i c l : ℕ} (t : ℕ) {o o' : List ℕ} {at r s : ℕ} → t ≡ k + i * 4 ^ (L - 1) → Done f k L i c l o o' at r s → Wrote f (L - 1) t o o' at r s
   done t e d = let p = place t d.quarter e in record { is = rw (p.0, p.1) at d.is; wrote = rw (p.0, p.1) at d.wrote; kept = d.kept; size = d.size }
 
   -- the four, written one after another
@@ -87,40 +73,40 @@ module _ {f : ℕ → ℕ} {L k K M : ℕ} (z : Closed f L k K M) where
     whole : Placed f o at (suc (L - 1)) k
     whole = placed-suc f o at L k z.some h
 
-    pub place_nw : {c l : ℕ} → Quarter K M 0 c l → Placed f o at l c
+    pub place_nw : {c l : ℕ} → Quarter k L 0 c l → Placed f o at l c
     place_nw q = placed k q (omega arith) (placed_nw f z.coloured o at (L - 1) k whole)
 
-    module _ {c₀ l₀ : ℕ} {o₁ : List ℕ} {r₀ s₀ : ℕ} (d₀ : Done f K M 0 c₀ l₀ o o₁ at r₀ s₀) where
+    module _ {c₀ l₀ : ℕ} {o₁ : List ℕ} {r₀ s₀ : ℕ} (d₀ : Done f k L 0 c₀ l₀ o o₁ at r₀ s₀) where
       w₀ : Wrote f (L - 1) k o o₁ at r₀ s₀
       w₀ = done k (omega arith) d₀
 
       pub fits_ne : at + s₀ < 2 ^ 64
       fits_ne = omega (arith, small₁ f z.coloured o at (L - 1) k whole o₁ r₀ s₀ w₀)
 
-      pub place_ne : {c l : ℕ} → Quarter K M 1 c l → Placed f o₁ (at + s₀) l c
+      pub place_ne : {c l : ℕ} → Quarter k L 1 c l → Placed f o₁ (at + s₀) l c
       place_ne q = placed (k + 4 ^ (L - 1)) q (omega arith) (placed_ne f z.coloured o at (L - 1) k whole o₁ r₀ s₀ w₀)
 
-      module _ {c₁ l₁ : ℕ} {o₂ : List ℕ} {r₁ s₁ : ℕ} (d₁ : Done f K M 1 c₁ l₁ o₁ o₂ (at + s₀) r₁ s₁) where
+      module _ {c₁ l₁ : ℕ} {o₂ : List ℕ} {r₁ s₁ : ℕ} (d₁ : Done f k L 1 c₁ l₁ o₁ o₂ (at + s₀) r₁ s₁) where
         w₁ : Wrote f (L - 1) (k + 4 ^ (L - 1)) o₁ o₂ (at + s₀) r₁ s₁
         w₁ = done (k + 4 ^ (L - 1)) (omega arith) d₁
 
         pub fits_sw : at + s₀ + s₁ < 2 ^ 64
         fits_sw = omega (arith, small₂ f z.coloured o at (L - 1) k whole o₁ r₀ s₀ w₀ o₂ r₁ s₁ w₁)
 
-        pub place_sw : {c l : ℕ} → Quarter K M 2 c l → Placed f o₂ (at + s₀ + s₁) l c
+        pub place_sw : {c l : ℕ} → Quarter k L 2 c l → Placed f o₂ (at + s₀ + s₁) l c
         place_sw q = placed (k + 2 * 4 ^ (L - 1)) q refl (placed_sw f z.coloured o at (L - 1) k whole o₁ r₀ s₀ w₀ o₂ r₁ s₁ w₁)
 
-        module _ {c₂ l₂ : ℕ} {o₃ : List ℕ} {r₂ s₂ : ℕ} (d₂ : Done f K M 2 c₂ l₂ o₂ o₃ (at + s₀ + s₁) r₂ s₂) where
+        module _ {c₂ l₂ : ℕ} {o₃ : List ℕ} {r₂ s₂ : ℕ} (d₂ : Done f k L 2 c₂ l₂ o₂ o₃ (at + s₀ + s₁) r₂ s₂) where
           w₂ : Wrote f (L - 1) (k + 2 * 4 ^ (L - 1)) o₂ o₃ (at + s₀ + s₁) r₂ s₂
           w₂ = done (k + 2 * 4 ^ (L - 1)) refl d₂
 
           pub fits_se : at + s₀ + s₁ + s₂ < 2 ^ 64
           fits_se = omega (arith, small₃ f z.coloured o at (L - 1) k whole o₁ r₀ s₀ w₀ o₂ r₁ s₁ w₁ o₃ r₂ s₂ w₂)
 
-          pub place_se : {c l : ℕ} → Quarter K M 3 c l → Placed f o₃ (at + s₀ + s₁ + s₂) l c
+          pub place_se : {c l : ℕ} → Quarter k L 3 c l → Placed f o₃ (at + s₀ + s₁ + s₂) l c
           place_se q = placed (k + 3 * 4 ^ (L - 1)) q refl (placed_se f z.coloured o at (L - 1) k whole o₁ r₀ s₀ w₀ o₂ r₁ s₁ w₁ o₃ r₂ s₂ w₂)
 
-          module _ {c₃ l₃ : ℕ} {o₄ : List ℕ} {r₃ : ℕ} (d₃ : Done f K M 3 c₃ l₃ o₃ o₄ (at + s₀ + s₁ + s₂) r₃ (size_of r₃)) where
+          module _ {c₃ l₃ : ℕ} {o₄ : List ℕ} {r₃ : ℕ} (d₃ : Done f k L 3 c₃ l₃ o₃ o₄ (at + s₀ + s₁ + s₂) r₃ (size_of r₃)) where
             pub all_done : Ready f o o₄ at (L - 1) k r₀ r₁ r₂ r₃
             all_done =
                 let w₃ : Wrote f (L - 1) (k + 3 * 4 ^ (L - 1)) o₃ o₄ (at + s₀ + s₁ + s₂) r₃ (size_of r₃) = done (k + 3 * 4 ^ (L - 1)) refl d₃ in

@@ -13,7 +13,7 @@ use Rattle.shortest.specs.Laws.Part.{part_one, part_many, part-size, part_small}
 use Rattle.shortest.specs.Laws.Flat.{Flat}
 use Rattle.shortest.specs.Laws.Written.{finished_one, finished_many, inner_one, inner_many, four_inner, four_filled}
 use Rattle.shortest.proofs.Flat.{uniform_flat, flat_uniform}
-use Rattle.shortest.proofs.Part.{part-joined}
+use Rattle.shortest.proofs.Parts.{part-joined}
 
 -- a block that is known to be of one colour
 pub flat_inner : (f : ℕ → ℕ) (c L k : ℕ) → Flat f c L k → (o : List ℕ) (at : ℕ) → o ≡ sets o at (inner f L k)

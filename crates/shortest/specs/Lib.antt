@@ -1,6 +1,7 @@
 pub mod Shortest
 pub mod Demand
 pub mod Part
+pub mod Coded
 pub mod Outcome
 pub mod Written
 pub mod Walk

@@ -1,14 +1,24 @@
 -- What is promised of a step of the walk down a picture.
-use Rattle.std.specs.Prelude.{◌≡◌, ℕ, ◌+◌, ◌*◌, ◌-◌, ◌^◌}
-use Rattle.shortest.specs.declared.walk.Seen.{Seen}
-use Rattle.shortest.specs.declared.walk.Seen.TheVariants.{Part, Closer}
+use Rattle.std.specs.Prelude.{◌≡◌, ℕ, ◌+◌, ◌*◌, ◌-◌, ◌^◌, ◌≤◌, ◌<◌}
+use Rattle.morton.specs.Power.{highest}
+use Rattle.tiling.specs.Leaf.{colours}
+use Rattle.shortest.specs.declared.Part.{Part}
+use Rattle.shortest.specs.declared.walk.Look.{Look}
+use Rattle.shortest.specs.declared.walk.Look.TheVariants.{Part as Whole, Closer}
 
 -- one fact of a part that was seen at once, another of a block that is to be looked at closer
-abbrev pub Sees : {B : Type 0} → Seen B → (ℕ → Type 0) → (B → Type 0) → Type 0
-Sees (Part p) P Q = P p
+abbrev pub Sees : {B : Type 0} → Look B → (Part → Type 0) → (B → Type 0) → Type 0
+Sees (Whole p) P Q = P p
 Sees (Closer b) P Q = Q b
 
 -- the block of level l at the code c is the quarter i of the block of level L at the code k
 pub record Quarter (k L i c l : ℕ) : Type 0 where
   pub code : c ≡ k + i * 4 ^ (L - 1)
   pub level : l ≡ L - 1
+
+-- the block of level L at the code k of the picture f has quarters, and lies within the largest square; colours are below 256
+pub record Divisible (f : ℕ → ℕ) (L k : ℕ) : Type 0 where
+  pub coloured : (j : ℕ) → f j < colours
+  pub some : 0 < L
+  pub low : L ≤ highest
+  pub codes : k + 4 ^ L ≤ 4 ^ highest

@@ -1,75 +1,109 @@
 // The shortest list of a picture: a block of one colour is one leaf, any other its four quarters in order.
 //
-// What a block comes to is one number, its part: below `tiling::COLOURS` it is the colour of the whole block; from there on it is
-// that much more than the leaves of the block's shortest list. Whoever walks down a picture, over a raster or over maps, gets the
-// parts of a block's four quarters, and `finish` makes the block of them. A quarter of one colour is not stored before it is known
-// that the four do not merge: so no word past the final list is ever touched.
+// Whoever walks down a picture, over a raster or over maps, gets the parts of a block's four quarters, and `finish` makes the block of
+// them. A quarter of one colour is not stored before it is known that the four do not merge: so no word past the final list is ever
+// touched.
 //
 // Read first: specs/Shortest.antt, and specs/Demand.antt for what is proved of it; then `finish`.
 #![tactic(auto)]
 
-ghost use Rattle.std.specs.Prelude.{◌≡◌, ◌+◌, ◌^◌, ◌≤◌};
+ghost use Rattle.std.specs.Prelude.{◌≡◌, eqb, ◌+◌, ◌^◌, ◌≤◌};
 ghost use Rattle.morton.specs.Power.{highest};
-ghost use Rattle.shortest.specs.Part.{size_of, merge, joined};
+ghost use Rattle.shortest.specs.Part.{is_one, size_of, merge, joined};
+ghost use Rattle.shortest.specs.Coded.{number_of};
 ghost use Rattle.shortest.specs.Written.{filled, settled, finished, Fills, Settles, Finishes};
 
 use morton::Four;
-use tiling::COLOURS;
 
 mod walk;
 
-pub use walk::{Picture, Seen, count, put};
+pub use walk::{Look, Picture, count, put};
 
-// The leaves that a part comes to.
-pub fn size(p: u64) -> u64
-    ensures { result ≡ size_of p }
-{
-    if p < COLOURS {
-        return 1;
+// What a block comes to: the colour of all of it, or the number of leaves of its shortest list.
+#[derive(Clone, Copy, Debug, PartialEq, Eq)]
+pub enum Part {
+    Colour(u8),
+    Leaves(u64),
+}
+
+impl Part {
+    // The leaves that it comes to.
+    #[tactic(auto, unfolding(crate::specs::Part::size_of))]
+    pub fn size(self) -> u64
+        ensures { result ≡ size_of (number_of self) }
+    {
+        match self {
+            Part::Colour(_) => 1,
+            Part::Leaves(leaves) => leaves,
+        }
     }
-    p - COLOURS
+
+    // Whether it is one colour.
+    fn is_one(self) -> bool
+        ensures { result ≡ is_one (number_of self) }
+    {
+        match self {
+            Part::Colour(_) => true,
+            Part::Leaves(_) => false,
+        }
+    }
+
+    // Whether it is this colour.
+    fn is_colour(self, colour: u8) -> bool
+        ensures { result ≡ eqb (number_of self) colour }
+    {
+        match self {
+            Part::Colour(own) => own == colour,
+            Part::Leaves(_) => false,
+        }
+    }
 }
 
 // Whether four quarters are of one colour.
 #[tactic(auto, unfolding(crate::specs::Part::merge))]
-fn merge(parts: Four<u64>) -> bool
-    ensures { result ≡ merge parts.nw parts.ne parts.sw parts.se }
+fn merge(parts: Four<Part>) -> bool
+    ensures { result ≡ merge (number_of parts.nw) (number_of parts.ne) (number_of parts.sw) (number_of parts.se) }
 {
-    let first = parts.nw;
-    (first < COLOURS) & (parts.ne == first) & (parts.sw == first) & (parts.se == first)
+    match parts.nw {
+        Part::Colour(first) => {
+            parts.ne.is_colour(first) & parts.sw.is_colour(first) & parts.se.is_colour(first)
+        }
+        Part::Leaves(_) => false,
+    }
 }
 
 // The part of a block, from its quarters'.
-pub fn joined(parts: Four<u64>) -> u64
-    requires { size_of parts.nw + size_of parts.ne + size_of parts.sw + size_of parts.se ≤ 4 ^ highest }
-    ensures { result ≡ joined parts.nw parts.ne parts.sw parts.se }
+pub fn joined(parts: Four<Part>) -> Part
+    requires { size_of (number_of parts.nw) + size_of (number_of parts.ne) + size_of (number_of parts.sw) + size_of (number_of parts.se) ≤ 4 ^ highest }
+    ensures { number_of result ≡ joined (number_of parts.nw) (number_of parts.ne) (number_of parts.sw) (number_of parts.se) }
 {
     if merge(parts) {
         return parts.nw;
     }
-    COLOURS + (size(parts.nw) + size(parts.ne) + size(parts.sw) + size(parts.se))
+    Part::Leaves(parts.nw.size() + parts.ne.size() + parts.sw.size() + parts.se.size())
 }
 
 // Stores a part that is one colour as the leaf of its block.
-pub fn fill(out: &mut [u64], at: u64, p: u64, code: u64, level: u64)
-    requires { Fills out.old at p code level }
-    ensures { out.new ≡ filled out.old at p code level }
+#[tactic(auto, unfolding(crate::specs::Part::size_of, crate::specs::Written::filled))]
+pub fn fill(out: &mut [u64], at: u64, part: Part, code: u64, level: u64)
+    requires { Fills out.old at (number_of part) code level }
+    ensures { out.new ≡ filled out.old at (number_of part) code level }
 {
-    if p < COLOURS {
+    if let Part::Colour(colour) = part {
         let i = at as usize;
-        out[i] = tiling::leaf(code, level, p as u8);
+        out[i] = tiling::leaf(code, level, colour);
     }
 }
 
 // Stores those of a block's quarters that are of one colour, each at its place.
-fn settle(out: &mut [u64], at: u64, parts: Four<u64>, code: u64, level: u64)
-    requires { Settles out.old at parts.nw parts.ne parts.sw parts.se code level }
-    ensures { out.new ≡ settled out.old at parts.nw parts.ne parts.sw parts.se code level }
+fn settle(out: &mut [u64], at: u64, parts: Four<Part>, code: u64, level: u64)
+    requires { Settles out.old at (number_of parts.nw) (number_of parts.ne) (number_of parts.sw) (number_of parts.se) code level }
+    ensures { out.new ≡ settled out.old at (number_of parts.nw) (number_of parts.ne) (number_of parts.sw) (number_of parts.se) code level }
 {
     let area = morton::area(level);
-    let ne = at + size(parts.nw);
-    let sw = ne + size(parts.ne);
-    let se = sw + size(parts.sw);
+    let ne = at + parts.nw.size();
+    let sw = ne + parts.ne.size();
+    let se = sw + parts.sw.size();
     fill(out, at, parts.nw, code, level);
     fill(out, ne, parts.ne, code + area, level);
     fill(out, sw, parts.sw, code + 2 * area, level);
@@ -78,13 +112,13 @@ fn settle(out: &mut [u64], at: u64, parts: Four<u64>, code: u64, level: u64)
 
 // The part of a block, from its quarters', which are of the level. Unless the four merge, those of one colour are stored.
 #[tactic(auto, using(crate::specs::Laws::Written::finished_one))]
-pub fn finish(out: &mut [u64], at: u64, parts: Four<u64>, code: u64, level: u64) -> u64
-    requires { Finishes out.old at parts.nw parts.ne parts.sw parts.se code level }
-    ensures part { result ≡ joined parts.nw parts.ne parts.sw parts.se }
-    ensures left { out.new ≡ finished out.old at parts.nw parts.ne parts.sw parts.se code level }
+pub fn finish(out: &mut [u64], at: u64, parts: Four<Part>, code: u64, level: u64) -> Part
+    requires { Finishes out.old at (number_of parts.nw) (number_of parts.ne) (number_of parts.sw) (number_of parts.se) code level }
+    ensures part { number_of result ≡ joined (number_of parts.nw) (number_of parts.ne) (number_of parts.sw) (number_of parts.se) }
+    ensures left { out.new ≡ finished out.old at (number_of parts.nw) (number_of parts.ne) (number_of parts.sw) (number_of parts.se) code level }
 {
     let part = joined(parts);
-    if part < COLOURS {
+    if part.is_one() {
         return part;
     }
     settle(out, at, parts, code, level);

@@ -1,11 +1,11 @@
 // The walk down a picture, over a raster or over maps: by recursion over a block whose level falls by one, once to count and once to write.
-use super::{finish, joined, size};
+use super::{Part, finish, joined};
 use morton::Four;
 
 // What is seen of a block: the part that it comes to; or that its quarters are to be looked at, with what is known of them.
 #[derive(Clone, Copy)]
-pub enum Seen<B> {
-    Part(u64),
+pub enum Look<B> {
+    Part(Part),
     Closer(B),
 }
 
@@ -16,6 +16,7 @@ pub trait Picture {
     ghost use Rattle.morton.specs.Power.{highest};
     ghost use Rattle.tiling.specs.Leaf.{colours};
     ghost use Rattle.shortest.specs.Part.{part};
+    ghost use Rattle.shortest.specs.Coded.{number_of};
     ghost use Rattle.shortest.specs.Written.{inner, Placed};
     ghost use Rattle.shortest.specs.Walk.{Sees, Quarter};
 
@@ -42,14 +43,14 @@ pub trait Picture {
         ensures { result ≡ level_of block };
 
     // What is seen of a block.
-    fn look(&self, block: Self::Block) -> Seen<Self::Block>
+    fn look(&self, block: Self::Block) -> Look<Self::Block>
         requires { Lies self.now block }
-        ensures { Sees result (λ p. p ≡ part (colour_at self.now) (level_of block) (code_of block)) (λ b. (0 < level_of block) × (level_of b ≡ level_of block) × (code_of b ≡ code_of block) × Opens self.now b) };
+        ensures { Sees result (λ p. number_of p ≡ part (colour_at self.now) (level_of block) (code_of block)) (λ b. (0 < level_of block) × (level_of b ≡ level_of block) × (code_of b ≡ code_of block) × Opens self.now b) };
 
     // The same, and the list of a block whose part is seen is written from `at` on, or nothing if it is of one colour.
-    fn draw(&self, block: Self::Block, out: &mut [u64], at: u64) -> Seen<Self::Block>
+    fn draw(&self, block: Self::Block, out: &mut [u64], at: u64) -> Look<Self::Block>
         requires { Lies self.now block × Placed (colour_at self.now) out.old at (level_of block) (code_of block) }
-        ensures seen { Sees result (λ p. p ≡ part (colour_at self.now) (level_of block) (code_of block)) (λ b. (0 < level_of block) × (level_of b ≡ level_of block) × (code_of b ≡ code_of block) × Opens self.now b) }
+        ensures seen { Sees result (λ p. number_of p ≡ part (colour_at self.now) (level_of block) (code_of block)) (λ b. (0 < level_of block) × (level_of b ≡ level_of block) × (code_of b ≡ code_of block) × Opens self.now b) }
         ensures left { Sees result (λ p. out.new ≡ sets out.old at (inner (colour_at self.now) (level_of block) (code_of block))) (λ b. out.new ≡ out.old) };
 
     // The quarters of a block that is to be looked at closer.
@@ -69,50 +70,64 @@ pub trait Picture {
 ghost use Rattle.std.specs.Prelude.{◌≡◌};
 ghost use Rattle.std.proofs.lemmas.List.Edits.{sets};
 ghost use Rattle.shortest.specs.Part.{part};
+ghost use Rattle.shortest.specs.Coded.{number_of};
 ghost use Rattle.shortest.specs.Written.{inner, Placed};
+ghost use Rattle.shortest.specs.Walk.{Divisible};
 
 // What a block comes to.
-pub fn count<P: Picture>(picture: &P, block: P::Block) -> u64
+#[cycle(counts)]
+pub fn count<P: Picture>(picture: &P, block: P::Block) -> Part
     requires { P.Lies picture.now block }
-    ensures { result ≡ part (P.colour_at picture.now) (P.level_of block) (P.code_of block) }
+    ensures { number_of result ≡ part (P.colour_at picture.now) (P.level_of block) (P.code_of block) }
 {
     match picture.look(block) {
-        Seen::Part(part) => part,
-        Seen::Closer(block) => {
-            let quarter = picture.quarters(block);
-            let nw = count(picture, quarter.nw);
-            let ne = count(picture, quarter.ne);
-            let sw = count(picture, quarter.sw);
-            let se = count(picture, quarter.se);
-            joined(Four { nw, ne, sw, se })
-        }
+        Look::Part(part) => part,
+        Look::Closer(block) => count_quarters(picture, block),
     }
 }
 
+// The same of a block whose quarters are to be looked at. It stands apart since most blocks need no memory for quarters.
+#[cycle(counts)]
+fn count_quarters<P: Picture>(picture: &P, block: P::Block) -> Part
+    requires { P.Opens picture.now block × Divisible (P.colour_at picture.now) (P.level_of block) (P.code_of block) }
+    ensures { number_of result ≡ part (P.colour_at picture.now) (P.level_of block) (P.code_of block) }
+{
+    let quarter = picture.quarters(block);
+    let nw = count(picture, quarter.nw);
+    let ne = count(picture, quarter.ne);
+    let sw = count(picture, quarter.sw);
+    let se = count(picture, quarter.se);
+    joined(Four { nw, ne, sw, se })
+}
+
 // Writes the list of a block from `at` on, or nothing if it is of one colour; what the block comes to.
-pub fn put<P: Picture>(picture: &P, block: P::Block, out: &mut [u64], at: u64) -> u64
+#[cycle(puts)]
+pub fn put<P: Picture>(picture: &P, block: P::Block, out: &mut [u64], at: u64) -> Part
     requires { P.Lies picture.now block × Placed (P.colour_at picture.now) out.old at (P.level_of block) (P.code_of block) }
-    ensures part { result ≡ part (P.colour_at picture.now) (P.level_of block) (P.code_of block) }
+    ensures part { number_of result ≡ part (P.colour_at picture.now) (P.level_of block) (P.code_of block) }
     ensures left { out.new ≡ sets out.old at (inner (P.colour_at picture.now) (P.level_of block) (P.code_of block)) }
 {
     match picture.draw(block, out, at) {
-        Seen::Part(part) => part,
-        Seen::Closer(block) => {
-            let quarter = picture.quarters(block);
-            let nw = put(picture, quarter.nw, out, at);
-            let at1 = at + size(nw);
-            let ne = put(picture, quarter.ne, out, at1);
-            let at2 = at1 + size(ne);
-            let sw = put(picture, quarter.sw, out, at2);
-            let at3 = at2 + size(sw);
-            let se = put(picture, quarter.se, out, at3);
-            finish(
-                out,
-                at,
-                Four { nw, ne, sw, se },
-                P::code(block),
-                P::level(block) - 1,
-            )
-        }
+        Look::Part(part) => part,
+        Look::Closer(block) => put_quarters(picture, block, out, at),
     }
+}
+
+// The same of a block whose quarters are to be looked at, apart for the same reason.
+#[cycle(puts)]
+fn put_quarters<P: Picture>(picture: &P, block: P::Block, out: &mut [u64], at: u64) -> Part
+    requires { P.Opens picture.now block × Divisible (P.colour_at picture.now) (P.level_of block) (P.code_of block) × Placed (P.colour_at picture.now) out.old at (P.level_of block) (P.code_of block) }
+    ensures part { number_of result ≡ part (P.colour_at picture.now) (P.level_of block) (P.code_of block) }
+    ensures left { out.new ≡ sets out.old at (inner (P.colour_at picture.now) (P.level_of block) (P.code_of block)) }
+{
+    let quarter = picture.quarters(block);
+    let nw = put(picture, quarter.nw, out, at);
+    let at1 = at + nw.size();
+    let ne = put(picture, quarter.ne, out, at1);
+    let at2 = at1 + ne.size();
+    let sw = put(picture, quarter.sw, out, at2);
+    let at3 = at2 + sw.size();
+    let se = put(picture, quarter.se, out, at3);
+    let parts = Four { nw, ne, sw, se };
+    finish(out, at, parts, P::code(block), P::level(block) - 1)
 }

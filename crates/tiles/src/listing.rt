@@ -4,12 +4,13 @@ ghost use Rattle.std.proofs.lemmas.List.Edits.{sets};
 ghost use Rattle.morton.specs.Power.{highest};
 ghost use Rattle.tiling.specs.Leaf.{colours};
 ghost use Rattle.shortest.specs.Part.{part};
+ghost use Rattle.shortest.specs.Coded.{number_of};
 ghost use Rattle.shortest.specs.Laws.Flat.{Flat};
 ghost use Rattle.shortest.specs.Written.{inner, Placed};
 ghost use Rattle.tiles.specs.Listing.{spots, Counts};
 
 use morton::Four;
-use shortest::{Picture, Seen};
+use shortest::{Look, Part, Picture};
 
 // The colours of a block of 256 codes, of which this is the first.
 #[derive(Clone, Copy)]
@@ -40,27 +41,27 @@ impl<'a> Tile<'a> {
     }
 
     // The colour of the cell at the code k.
-    fn cell(&self, k: u64) -> u64
+    fn cell(&self, k: u64) -> u8
         requires { (self.now.first ≤ k) × (k < self.now.first + 256) }
         ensures { result ≡ spots self.now.cells.now self.now.first k }
     {
         let i = (k - self.first) as usize;
-        self.cells[i] as u64
+        self.cells[i]
     }
 
     // The colours of the four cells from the code k on.
-    fn four(&self, k: u64) -> Four<u64>
+    fn four(&self, k: u64) -> Four<Part>
         requires { Counts self.now.first k 1 }
-        ensures nw { result.nw ≡ spots self.now.cells.now self.now.first k }
-        ensures ne { result.ne ≡ spots self.now.cells.now self.now.first (k + 1) }
-        ensures sw { result.sw ≡ spots self.now.cells.now self.now.first (k + 2) }
-        ensures se { result.se ≡ spots self.now.cells.now self.now.first (k + 3) }
+        ensures nw { number_of result.nw ≡ spots self.now.cells.now self.now.first k }
+        ensures ne { number_of result.ne ≡ spots self.now.cells.now self.now.first (k + 1) }
+        ensures sw { number_of result.sw ≡ spots self.now.cells.now self.now.first (k + 2) }
+        ensures se { number_of result.se ≡ spots self.now.cells.now self.now.first (k + 3) }
     {
         Four {
-            nw: self.cell(k),
-            ne: self.cell(k + 1),
-            sw: self.cell(k + 2),
-            se: self.cell(k + 3),
+            nw: Part::Colour(self.cell(k)),
+            ne: Part::Colour(self.cell(k + 1)),
+            sw: Part::Colour(self.cell(k + 2)),
+            se: Part::Colour(self.cell(k + 3)),
         }
     }
 
@@ -76,17 +77,17 @@ impl<'a> Tile<'a> {
     }
 
     // What four cells come to.
-    fn count_cells(&self, k: u64) -> u64
+    fn count_cells(&self, k: u64) -> Part
         requires { Counts self.now.first k 1 }
-        ensures { result ≡ part (spots self.now.cells.now self.now.first) 1 k }
+        ensures { number_of result ≡ part (spots self.now.cells.now self.now.first) 1 k }
     {
         shortest::joined(self.four(k))
     }
 
     // Writes the list of four cells from `at` on, or nothing if they are of one colour; what they come to.
-    fn put_cells(&self, k: u64, out: &mut [u64], at: u64) -> u64
+    fn put_cells(&self, k: u64, out: &mut [u64], at: u64) -> Part
         requires { Counts self.now.first k 1 × Placed (spots self.now.cells.now self.now.first) out.old at 1 k }
-        ensures part { result ≡ part (spots self.now.cells.now self.now.first) 1 k }
+        ensures part { number_of result ≡ part (spots self.now.cells.now self.now.first) 1 k }
         ensures left { out.new ≡ sets out.old at (inner (spots self.now.cells.now self.now.first) 1 k) }
     {
         shortest::finish(out, at, self.four(k), k, 0)
@@ -121,24 +122,24 @@ impl<'a> Picture for Tile<'a> {
         block.level
     }
 
-    fn look(&self, block: Spot) -> Seen<Spot> {
+    fn look(&self, block: Spot) -> Look<Spot> {
         if block.level == 1 {
-            return Seen::Part(self.count_cells(block.code));
+            return Look::Part(self.count_cells(block.code));
         }
         if self.alike(block) {
-            return Seen::Part(self.cell(block.code));
+            return Look::Part(Part::Colour(self.cell(block.code)));
         }
-        Seen::Closer(block)
+        Look::Closer(block)
     }
 
-    fn draw(&self, block: Spot, out: &mut [u64], at: u64) -> Seen<Spot> {
+    fn draw(&self, block: Spot, out: &mut [u64], at: u64) -> Look<Spot> {
         if block.level == 1 {
-            return Seen::Part(self.put_cells(block.code, out, at));
+            return Look::Part(self.put_cells(block.code, out, at));
         }
         if self.alike(block) {
-            return Seen::Part(self.cell(block.code));
+            return Look::Part(Part::Colour(self.cell(block.code)));
         }
-        Seen::Closer(block)
+        Look::Closer(block)
     }
 
     fn quarters(&self, block: Spot) -> Four<Spot> {

@@ -11,12 +11,11 @@ use Rattle.morton.specs.Laws.Block.{block_level, quarters}
 use Rattle.morton.specs.declared.block.Block.{Block}
 use Rattle.tiling.specs.Leaf.{colours}
 use Rattle.shortest.specs.Part.{part}
-use Rattle.shortest.specs.Walk.{Quarter}
+use Rattle.shortest.specs.Walk.{Quarter, Divisible}
 use Rattle.shortest.specs.Written.{inner, Placed}
-use Rattle.shortest.proofs.Part.{part_cell}
+use Rattle.shortest.proofs.Parts.{part_cell}
 use Rattle.shortest.proofs.Written.{cell_inner}
 use Rattle.std.proofs.lemmas.List.Edits.{sets}
-use Rattle.shortest.proofs.Steps.{Closed}
 use Rattle.rasters.specs.Raster.{pixel}
 use Rattle.rasters.specs.Listing.{Pixel, Inside}
 
@@ -97,8 +96,9 @@ module _ (n : ℕ) (cells : List ℕ) (b : Block) (l : b.level ≡ 1) (c : Insid
 pub quarter_of : {k y x L i j k' y' x' l : ℕ} → Quartered k y x (L - 1) i j k' y' x' l → Quarter k L (2 * i + j) k' l
 quarter_of q = record { code = q.code; level = q.level }
 
-pub closed : (n : ℕ) (cells : List ℕ) → ((j : ℕ) → get_or cells j 0 < colours) → (b : Block) → 0 < b.level → Closed (pixel n cells) b.level b.code b.code b.level
-closed n cells bytes b p = record { coloured = coloured n cells bytes; some = p; same_level = refl; same_code = refl; low = (block_fits b).0; codes = (block_fits b).1 }
+-- a block that is no single cell
+pub divisible : (n : ℕ) (cells : List ℕ) → ((j : ℕ) → get_or cells j 0 < colours) → (b : Block) → 0 < b.level → Divisible (pixel n cells) b.level b.code
+divisible n cells bytes b p = record { coloured = coloured n cells bytes; some = p; low = (block_fits b).0; codes = (block_fits b).1 }
 
 -- a single cell
 module _ (n : ℕ) (cells : List ℕ) (b : Block) (l : b.level ≡ 0) where

@@ -1,7 +1,11 @@
 -- `shortest::finish` meets its contract: nothing is stored if the four merge (the law that the function's attribute names), and else they
 -- are settled, for which there is room.
-use Rattle.std.proofs.Common.{sym, arith}
+use Rattle.shortest.proofs.finish.Goals.{After-is_one}
+use Rattle.std.proofs.Common.{sym, arith, ltb-false, ◌≤◌}
 use Rattle.std.proofs.Math.Path.{◌∙◌}
+use Rattle.tiling.specs.Leaf.{colours}
+use Rattle.shortest.specs.Coded.{number_of}
+use Rattle.shortest.specs.Part.{joined}
 use Rattle.shortest.specs.Laws.Part.{joined-sizes}
 use Rattle.shortest.specs.Laws.Written.{finished_many}
 use Rattle.shortest.proofs.finish.Goals as goal
@@ -10,17 +14,20 @@ pub settle-requires : goal.settle-requires
 settle-requires c =
     let a = c.args in
     let p = a.parts in
+    let m = ltb-false _ colours (sym c.is_one.ensures ∙ c.if-is_one.false) in
+    let h : colours ≤ joined (number_of p.nw) (number_of p.ne) (number_of p.sw) (number_of p.se) = omega (arith, m, c.joined-part.ensures) in
     record {
       codes = c.requires.codes;
       level = c.requires.level;
-      room = omega (arith, c.joined-part.ensures, joined-sizes p.nw p.ne p.sw p.se (omega (arith, c.joined-part.ensures)), c.requires.room (omega (arith, c.joined-part.ensures)));
+      room = omega (arith, joined-sizes (number_of p.nw) (number_of p.ne) (number_of p.sw) (number_of p.se) h, c.requires.room h);
     }
 
 pub returns : goal.returns
 returns c =
     let a = c.args in
     let p = a.parts in
+    let m = ltb-false _ colours (sym c.is_one.ensures ∙ c.if-is_one.false) in
     record {
       part = c.joined-part.ensures;
-      left = c.settle.ensures ∙ sym (finished_many a.out.now a.at p.nw p.ne p.sw p.se a.code a.level (omega (arith, c.joined-part.ensures)));
+      left = c.settle.ensures ∙ sym (finished_many a.out.now a.at (number_of p.nw) (number_of p.ne) (number_of p.sw) (number_of p.se) a.code a.level (omega (arith, m, c.joined-part.ensures)));
     }

@@ -3,6 +3,7 @@ use Rattle.painter.proofs.painting.write.Goals.{After-put-part}
 use Rattle.std.proofs.Math.Path.{◌≡◌, ◌∙◌}
 use Rattle.std.proofs.Common.{rules}
 use Rattle.shortest.specs.Part.{part}
+use Rattle.shortest.specs.Coded.{number_of}
 use Rattle.shortest.specs.Laws.Outcome.{whole-placed, whole_fills, whole-left, whole-size}
 use Rattle.painter.specs.Scene.{picture}
 use Rattle.painter.specs.Laws.Blocks.{coloured}
@@ -17,7 +18,7 @@ put-part-requires c =
     search (rules, whole_placed c.new-view.result f c.new-view.ensures a.w _ _ w.0 w.3 a.out.now (whole-placed f (coloured a.s a.a.now a.b.now) a.w c.requires.paints.size a.out.now c.requires.fits))
 
 -- what the window comes to
-window : (c : After-put-part) → let a = c.args in c.put-part.result ≡ part (picture a.s a.a.now a.b.now) a.w 0
+window : (c : After-put-part) → let a = c.args in number_of c.put-part.result ≡ part (picture a.s a.a.now a.b.now) a.w 0
 window c =
     let a = c.args in
     let w = c.whole.ensures in

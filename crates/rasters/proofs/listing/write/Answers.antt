@@ -4,6 +4,7 @@ use Rattle.std.proofs.Math.Path.{◌≡◌, ◌∙◌}
 use Rattle.std.proofs.Common.{rules, ℕ, ◌<◌}
 use Rattle.tiling.specs.Leaf.{colours}
 use Rattle.shortest.specs.Part.{part}
+use Rattle.shortest.specs.Coded.{number_of}
 use Rattle.shortest.specs.Laws.Outcome.{whole-placed, whole_fills, whole-left, whole-size}
 use Rattle.rasters.specs.Raster.{pixel}
 use Rattle.rasters.specs.Laws.Pixel.{coloured, whole_part, whole_wrote, whole_put}
@@ -20,7 +21,7 @@ put-part-requires c =
     search (rules, whole_put a.n f _ _ w.0 w.3 a.out.now (whole-placed f (coloured a.n a.cells.now (λ j. (c.type_inv.cells j).fits)) a.n c.requires.rastered.size a.out.now c.requires.fits))
 
 -- what the square comes to
-all : (c : After-put-part) → let a = c.args in c.put-part.result ≡ part (pixel a.n a.cells.now) a.n 0
+all : (c : After-put-part) → let a = c.args in number_of c.put-part.result ≡ part (pixel a.n a.cells.now) a.n 0
 all c = let a = c.args in let w = c.whole.ensures in whole_part a.n (pixel a.n a.cells.now) _ _ w.0 w.3 _ c.put-part.ensures.part
 
 pub fill-requires : goal.fill-requires

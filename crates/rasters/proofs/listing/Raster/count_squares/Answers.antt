@@ -3,14 +3,14 @@ use Rattle.rasters.proofs.listing.Raster.count_squares.Goals.{After-quarters-qua
 use Rattle.std.proofs.Math.Path.{◌∙◌}
 use Rattle.std.proofs.Common.{arith}
 use Rattle.shortest.proofs.Steps.{counted_fits, counted_part}
-use Rattle.rasters.specs.Laws.Pixel.{quarter_of, closed}
+use Rattle.rasters.specs.Laws.Pixel.{quarter_of, closed, divisible}
 use Rattle.rasters.proofs.listing.Raster.count_squares.Goals as goal
 
 pub joined-requires : goal.joined-requires
 joined-requires c =
     let q = c.quarters-quarter.ensures in
     let r = c.args.self.now in
-    counted_fits (closed r.n r.cells.now r.bytes c.args.block (omega (arith, c.requires.1))) (quarter_of q.nw) (quarter_of q.ne) (quarter_of q.sw) (quarter_of q.se)
+    counted_fits (divisible r.n r.cells.now r.bytes c.args.block (omega (arith, c.requires.1))) (quarter_of q.nw) (quarter_of q.ne) (quarter_of q.sw) (quarter_of q.se)
     c.count_cells-nw.ensures c.count_cells-ne.ensures c.count_cells-sw.ensures c.count_cells-se.ensures
 
 pub returns : goal.returns
@@ -18,5 +18,5 @@ returns c =
     let q = c.quarters-quarter.ensures in
     let r = c.args.self.now in
     c.joined.ensures
-    ∙ counted_part (closed r.n r.cells.now r.bytes c.args.block (omega (arith, c.requires.1))) (quarter_of q.nw) (quarter_of q.ne) (quarter_of q.sw) (quarter_of q.se)
+    ∙ counted_part (divisible r.n r.cells.now r.bytes c.args.block (omega (arith, c.requires.1))) (quarter_of q.nw) (quarter_of q.ne) (quarter_of q.sw) (quarter_of q.se)
     c.count_cells-nw.ensures c.count_cells-ne.ensures c.count_cells-sw.ensures c.count_cells-se.ensures

@@ -4,6 +4,7 @@ use Rattle.std.proofs.Common.{sym, ap, subst, ℕ}
 use Rattle.std.proofs.Math.Path.{◌∙◌}
 use Rattle.std.proofs.lemmas.List.Edits.{sets}
 use Rattle.shortest.specs.Part.{part}
+use Rattle.shortest.specs.Coded.{number_of}
 use Rattle.shortest.specs.Written.{inner, Placed}
 use Rattle.shortest.specs.Laws.Quarters.{Ready}
 use Rattle.shortest.proofs.Cells.{cells_ready}
@@ -14,7 +15,7 @@ use Rattle.rasters.proofs.listing.Raster.put_cells.Goals as goal
 all : (c : After-four) →
     let r = c.args.self.now in
     let q = c.four.result in
-    Ready (pixel r.n r.cells.now) c.args.out.now c.args.out.now c.args.at 0 c.args.block.code q.nw q.ne q.sw q.se
+    Ready (pixel r.n r.cells.now) c.args.out.now c.args.out.now c.args.at 0 c.args.block.code (number_of q.nw) (number_of q.ne) (number_of q.sw) (number_of q.se)
 all c =
     let q = c.four.ensures in
     let r = c.args.self.now in

@@ -3,42 +3,44 @@ use Rattle.rasters.proofs.listing.Raster.put_squares.Goals.{After-quarters-quart
 use Rattle.std.proofs.Math.Path.{◌∙◌}
 use Rattle.std.proofs.Common.{refl, rules, arith, ◌+◌, ◌-◌}
 use Rattle.shortest.specs.Part.{size_of}
+use Rattle.shortest.specs.Coded.{number_of}
 use Rattle.shortest.specs.Laws.Quarters.{Ready}
-use Rattle.shortest.proofs.Steps.{Closed, Done, place_nw, place_ne, place_sw, place_se, fits_ne, fits_sw, fits_se, all_done, all_part, all_wrote, finishes_same, finished_same}
+use Rattle.shortest.proofs.Steps.{Done, place_nw, place_ne, place_sw, place_se, fits_ne, fits_sw, fits_se, all_done, all_part, all_wrote, finishes_same, finished_same}
+use Rattle.shortest.specs.Walk.{Divisible}
 use Rattle.rasters.specs.Raster.{pixel}
-use Rattle.rasters.specs.Laws.Pixel.{quarter_of, closed}
+use Rattle.rasters.specs.Laws.Pixel.{quarter_of, divisible}
 use Rattle.rasters.proofs.listing.Raster.put_squares.Goals as goal
 
-opened : (c : After-quarters-quarter) → let r = c.args.self.now in let b = c.args.block in Closed (pixel r.n r.cells.now) b.level b.code b.code b.level
-opened c = let r = c.args.self.now in closed r.n r.cells.now r.bytes c.args.block (omega (arith, c.requires.1))
+opened : (c : After-quarters-quarter) → let r = c.args.self.now in let b = c.args.block in Divisible (pixel r.n r.cells.now) b.level b.code
+opened c = let r = c.args.self.now in divisible r.n r.cells.now r.bytes c.args.block (omega (arith, c.requires.1))
 
 -- what is left of each quarter
 done₀ : (c : After-size) →
     let r = c.args.self.now in
     let b = c.args.block in
     let q = c.quarters-quarter.result.nw in
-    Done (pixel r.n r.cells.now) b.code b.level 0 q.code q.level c.args.out.now c.put_cells-nw.new.out c.args.at c.put_cells-nw.result c.size.result
+    Done (pixel r.n r.cells.now) b.code b.level 0 q.code q.level c.args.out.now c.put_cells-nw.new.out c.args.at (number_of c.put_cells-nw.result) c.size.result
 done₀ c = let p = c.put_cells-nw in record { quarter = quarter_of c.quarters-quarter.ensures.nw; is = p.ensures.part; wrote = p.ensures.left; kept = p.auto.out; size = c.size.ensures }
 
 done₁ : (c : After-size-2) →
     let r = c.args.self.now in
     let b = c.args.block in
     let q = c.quarters-quarter.result.ne in
-    Done (pixel r.n r.cells.now) b.code b.level 1 q.code q.level c.put_cells-nw.new.out c.put_cells-ne.new.out (c.args.at + c.size.result) c.put_cells-ne.result c.size-2.result
+    Done (pixel r.n r.cells.now) b.code b.level 1 q.code q.level c.put_cells-nw.new.out c.put_cells-ne.new.out (c.args.at + c.size.result) (number_of c.put_cells-ne.result) c.size-2.result
 done₁ c = let p = c.put_cells-ne in record { quarter = quarter_of c.quarters-quarter.ensures.ne; is = p.ensures.part; wrote = p.ensures.left; kept = p.auto.out; size = c.size-2.ensures }
 
 done₂ : (c : After-size-3) →
     let r = c.args.self.now in
     let b = c.args.block in
     let q = c.quarters-quarter.result.sw in
-    Done (pixel r.n r.cells.now) b.code b.level 2 q.code q.level c.put_cells-ne.new.out c.put_cells-sw.new.out (c.args.at + c.size.result + c.size-2.result) c.put_cells-sw.result c.size-3.result
+    Done (pixel r.n r.cells.now) b.code b.level 2 q.code q.level c.put_cells-ne.new.out c.put_cells-sw.new.out (c.args.at + c.size.result + c.size-2.result) (number_of c.put_cells-sw.result) c.size-3.result
 done₂ c = let p = c.put_cells-sw in record { quarter = quarter_of c.quarters-quarter.ensures.sw; is = p.ensures.part; wrote = p.ensures.left; kept = p.auto.out; size = c.size-3.ensures }
 
 done₃ : (c : After-put_cells-se) →
     let r = c.args.self.now in
     let b = c.args.block in
     let q = c.quarters-quarter.result.se in
-    Done (pixel r.n r.cells.now) b.code b.level 3 q.code q.level c.put_cells-sw.new.out c.put_cells-se.new.out (c.args.at + c.size.result + c.size-2.result + c.size-3.result) c.put_cells-se.result (size_of c.put_cells-se.result)
+    Done (pixel r.n r.cells.now) b.code b.level 3 q.code q.level c.put_cells-sw.new.out c.put_cells-se.new.out (c.args.at + c.size.result + c.size-2.result + c.size-3.result) (number_of c.put_cells-se.result) (size_of (number_of c.put_cells-se.result))
 done₃ c = let p = c.put_cells-se in record { quarter = quarter_of c.quarters-quarter.ensures.se; is = p.ensures.part; wrote = p.ensures.left; kept = p.auto.out; size = refl }
 
 pub put_cells-nw-requires : goal.put_cells-nw-requires
@@ -65,7 +67,7 @@ put_cells-se-requires c = search (rules, place_se (opened (goal.at.put_cells-se-
 -- the four together, which are of the level 1
 all : (c : After-put_cells-se) →
     let r = c.args.self.now in
-    Ready (pixel r.n r.cells.now) c.args.out.now c.put_cells-se.new.out c.args.at (c.args.block.level - 1) c.args.block.code c.put_cells-nw.result c.put_cells-ne.result c.put_cells-sw.result c.put_cells-se.result
+    Ready (pixel r.n r.cells.now) c.args.out.now c.put_cells-se.new.out c.args.at (c.args.block.level - 1) c.args.block.code (number_of c.put_cells-nw.result) (number_of c.put_cells-ne.result) (number_of c.put_cells-sw.result) (number_of c.put_cells-se.result)
 all c =
     all_done (opened (goal.at.After-put_cells-se c).After-quarters-quarter) c.requires.2 (done₀ (goal.at.After-put_cells-se c).After-size) (done₁ (goal.at.After-put_cells-se c).After-size-2) (done₂ (goal.at.After-put_cells-se c).After-size-3) (done₃ c)
 

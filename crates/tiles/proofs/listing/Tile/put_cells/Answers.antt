@@ -2,6 +2,7 @@
 use Rattle.tiles.proofs.listing.Tile.put_cells.Goals.{After-four}
 use Rattle.std.proofs.Math.Path.{◌∙◌}
 use Rattle.std.proofs.Common.{arith}
+use Rattle.shortest.specs.Coded.{number_of}
 use Rattle.shortest.specs.Laws.Quarters.{Ready}
 use Rattle.shortest.proofs.Cells.{cells_ready}
 use Rattle.tiles.specs.Listing.{spots}
@@ -11,7 +12,7 @@ use Rattle.tiles.proofs.listing.Tile.put_cells.Goals as goal
 all : (c : After-four) →
     let s = c.args.self.now in
     let q = c.four.result in
-    Ready (spots s.cells.now s.first) c.args.out.now c.args.out.now c.args.at 0 c.args.k q.nw q.ne q.sw q.se
+    Ready (spots s.cells.now s.first) c.args.out.now c.args.out.now c.args.at 0 c.args.k (number_of q.nw) (number_of q.ne) (number_of q.sw) (number_of q.se)
 all c =
     let q = c.four.ensures in
     let s = c.args.self.now in
