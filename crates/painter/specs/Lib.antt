@@ -4,4 +4,5 @@ pub mod Scene
 pub mod Tiled
 pub mod Painting
 pub mod View
+pub mod Windowed
 pub mod Laws

@@ -2,6 +2,7 @@
 use Rattle.std.specs.Prelude.{List, ℕ}
 use Rattle.morton.specs.declared.block.Block.{Block}
 use Rattle.probe.specs.declared.seen.Seen.{Seen}
+use Rattle.probe.specs.declared.square.Square.{Square}
 use Rattle.painter.specs.Scene.{cell_of, picture, Knows, Told}
 use Rattle.painter.specs.Tiled.{Tiled}
 use Rattle.painter.specs.declared.scene.Known.{Known}
@@ -24,7 +25,14 @@ cell_in v = cell_of (scene_of v) (first_of v) (second_of v)
 abbrev pub picture_in : View → ℕ → ℕ
 picture_in v = picture (scene_of v) (first_of v) (second_of v)
 
--- what is known of each map over the block is right
+-- what is known of each map over the square is right, and what is told of it
+abbrev pub KnowsAt : View → Known → Square → Type 0
+KnowsAt v k q = Knows (scene_of v) (first_of v) (second_of v) k.first k.second q.row q.column q.level
+
+abbrev pub ToldAt : View → Square → Seen → Known → Type 0
+ToldAt v q all k = Told (scene_of v) (first_of v) (second_of v) q.row q.column q.level all k.first k.second
+
+-- the same over a block
 abbrev pub KnowsOver : View → Known → Block → Type 0
 KnowsOver v k b = Knows (scene_of v) (first_of v) (second_of v) k.first k.second b.row b.column b.level
 

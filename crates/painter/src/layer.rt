@@ -4,6 +4,7 @@ ghost use Rattle.probe.specs.Seen.{Holds, Tells};
 ghost use Rattle.probe.specs.Biased.{cell_about};
 ghost use Rattle.tiles.specs.Tile.{Steps, Tile};
 ghost use Rattle.tiles.specs.Decoding.{Serves};
+ghost use Rattle.painter.specs.Windowed.{Windowed};
 
 use morton::{Block, Spread};
 use probe::{Seen, Square};
@@ -36,17 +37,17 @@ impl<'a> Layer<'a> {
         }
     }
 
-    // What the map shows over a block of the window, unless it is known already.
-    pub fn ask(&self, table: &Spread, known: Seen, block: Block) -> Seen
-        requires { Holds (cell_about self.now.map.n self.now.map.list.now) (self.now.row + block.row) (self.now.column + block.column) block.level known }
-        ensures { Tells (cell_about self.now.map.n self.now.map.list.now) (self.now.row + block.row) (self.now.column + block.column) block.level result }
+    // What the map shows over a square of the window, unless it is known already.
+    pub fn ask(&self, table: &Spread, known: Seen, square: Square) -> Seen
+        requires { Windowed square × Holds (cell_about self.now.map.n self.now.map.list.now) (self.now.row + square.row) (self.now.column + square.column) square.level known }
+        ensures { Tells (cell_about self.now.map.n self.now.map.list.now) (self.now.row + square.row) (self.now.column + square.column) square.level result }
     {
-        let square = Square {
-            row: self.row + block.row,
-            column: self.column + block.column,
-            level: block.level,
+        let about = Square {
+            row: self.row + square.row,
+            column: self.column + square.column,
+            ..square
         };
-        probe::ask(&self.map, table, known, square)
+        probe::ask(&self.map, table, known, about)
     }
 
     // Whether the map can be painted by tiles: it is known over the block or at least as large as one.

@@ -85,7 +85,7 @@ impl<'a> Picture for View<'a> {
 
     fn look(&self, glance: Glance) -> Look<Glance> {
         let block = glance.block;
-        let seen = self.shown(glance.known, block);
+        let seen = self.shown_over(glance.known, block);
         if let Seen::One(colour) = seen.all {
             return Look::Part(Part::Colour(colour));
         }
@@ -98,7 +98,7 @@ impl<'a> Picture for View<'a> {
 
     fn draw(&self, glance: Glance, out: &mut [u64], at: u64) -> Look<Glance> {
         let block = glance.block;
-        let seen = self.shown(glance.known, block);
+        let seen = self.shown_over(glance.known, block);
         if let Seen::One(colour) = seen.all {
             return Look::Part(Part::Colour(colour));
         }

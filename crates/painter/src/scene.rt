@@ -4,7 +4,7 @@ ghost use Rattle.std.specs.Prelude.{◌≡◌, true, length};
 use super::layer::Layer;
 use super::operations::Operation;
 use morton::{Block, Spread};
-use probe::Seen;
+use probe::{Seen, Square};
 use tiling::Map;
 
 // Two maps of sizes n and m, and where the window's first cell lies in each, at biased rows and columns.
@@ -44,7 +44,8 @@ pub struct View<'a> {
 
 impl<'a> View<'a> {
     ghost use Rattle.painter.specs.Scene.{Scened, picture};
-    ghost use Rattle.painter.specs.View.{picture_in, cell_in, KnowsOver, ToldOver, TiledOver};
+    ghost use Rattle.painter.specs.Windowed.{Windowed};
+    ghost use Rattle.painter.specs.View.{picture_in, cell_in, KnowsAt, ToldAt, KnowsOver, ToldOver, TiledOver};
     ghost use Rattle.tiles.specs.Tile.{Tile};
 
     pub fn new(s: Scene, a: &'a [u64], b: &'a [u64]) -> View<'a>
@@ -62,12 +63,12 @@ impl<'a> View<'a> {
         }
     }
 
-    // What the scene shows over a block. The second map is asked only if what was known of it leaves the operation open.
-    pub fn shown(&self, known: Known, block: Block) -> Probe
-        requires { KnowsOver self.now known block }
-        ensures { ToldOver self.now block result.all result.known }
+    // What the scene shows over a square. The second map is asked only if what was known of it leaves the operation open.
+    pub fn shown(&self, known: Known, square: Square) -> Probe
+        requires { Windowed square × KnowsAt self.now known square }
+        ensures { ToldAt self.now square result.all result.known }
     {
-        let first = self.first.ask(&self.table, known.first, block);
+        let first = self.first.ask(&self.table, known.first, square);
         let early = self.operation.joint(first, known.second);
         if let Seen::One(_) = early {
             let second = known.second;
@@ -76,12 +77,25 @@ impl<'a> View<'a> {
                 known: Known { first, second },
             };
         }
-        let second = self.second.ask(&self.table, known.second, block);
+        let second = self.second.ask(&self.table, known.second, square);
         let all = self.operation.joint(first, second);
         Probe {
             all,
             known: Known { first, second },
         }
+    }
+
+    // The same over a block of the window.
+    pub fn shown_over(&self, known: Known, block: Block) -> Probe
+        requires { KnowsOver self.now known block }
+        ensures { ToldOver self.now block result.all result.known }
+    {
+        let square = Square {
+            row: block.row,
+            column: block.column,
+            level: block.level,
+        };
+        self.shown(known, square)
     }
 
     // Whether a block is painted by a tile: it is one, and so can both maps be.

@@ -6,4 +6,4 @@ use Rattle.painter.proofs.painting.ViewPicture.look.Goals as goal
 pub returns-in-One : goal.returns-in-One
 returns-in-One c =
     let v = c.args.self.now in
-    shows_part (scene_of v) (first_of v) (second_of v) _ _ _ _ _ c.args.glance.block.is (rw c.in-One.is at c.shown-seen.ensures.shows)
+    shows_part (scene_of v) (first_of v) (second_of v) _ _ _ _ _ c.args.glance.block.is (rw c.in-One.is at c.shown_over-seen.ensures.shows)

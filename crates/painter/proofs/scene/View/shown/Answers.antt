@@ -11,8 +11,8 @@ returns-in-One c =
     let v = c.args.self.now in
     let e = c.in-One.is in
     record {
-      knows = record { first = k; second = c.requires.second };
-      shows = rw e (early_told (scene_of v) (first_of v) (second_of v) _ _ _ g.result c.args.known.second c.in-One.field-0 k c.requires.second (rw e at c.joint-early.ensures));
+      knows = record { first = k; second = c.requires.1.second };
+      shows = rw e (early_told (scene_of v) (first_of v) (second_of v) _ _ _ g.result c.args.known.second c.in-One.field-0 k c.requires.1.second (rw e at c.joint-early.ensures));
     }
 
 pub returns : goal.returns
