@@ -1,7 +1,6 @@
 -- `shortest::finish` meets its contract: nothing is stored if the four merge (the law that the function's attribute names), and else they
 -- are settled, for which there is room.
-use Rattle.shortest.proofs.finish.Goals.{After-is_one}
-use Rattle.std.proofs.Common.{sym, arith, ltb-false, ◌≤◌}
+use Rattle.std.proofs.Common.{sym, rules, arith, ◌≤◌}
 use Rattle.std.proofs.Math.Path.{◌∙◌}
 use Rattle.tiling.specs.Leaf.{colours}
 use Rattle.shortest.specs.Coded.{number_of}
@@ -14,7 +13,7 @@ pub settle-requires : goal.settle-requires
 settle-requires c =
     let a = c.args in
     let p = a.parts in
-    let m = ltb-false _ colours (sym c.is_one.ensures ∙ c.if-is_one.false) in
+    let m : colours ≤ number_of c.joined-part.result = search rules in
     let h : colours ≤ joined (number_of p.nw) (number_of p.ne) (number_of p.sw) (number_of p.se) = omega (arith, m, c.joined-part.ensures) in
     record {
       codes = c.requires.codes;
@@ -26,7 +25,7 @@ pub returns : goal.returns
 returns c =
     let a = c.args in
     let p = a.parts in
-    let m = ltb-false _ colours (sym c.is_one.ensures ∙ c.if-is_one.false) in
+    let m : colours ≤ number_of c.joined-part.result = search rules in
     record {
       part = c.joined-part.ensures;
       left = c.settle.ensures ∙ sym (finished_many a.out.now a.at (number_of p.nw) (number_of p.ne) (number_of p.sw) (number_of p.se) a.code a.level (omega (arith, m, c.joined-part.ensures)));
