@@ -63,6 +63,8 @@ impl<'a> View<'a> {
     }
 
     // What the scene shows over a block. The second map is asked only if what was known of it leaves the operation open.
+    // Inlined, so that what it tells does not go through memory.
+    #[inline(always)]
     pub fn shown(&self, known: Known, block: Block) -> Probe
         requires { KnowsOver self.now known block }
         ensures { ToldOver self.now block result.all result.known }
