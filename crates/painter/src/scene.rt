@@ -64,6 +64,8 @@ impl<'a> View<'a> {
     }
 
     // What the scene shows over a square. The second map is asked only if what was known of it leaves the operation open.
+    // Inlined, so that what it tells does not go through memory.
+    #[inline(always)]
     pub fn shown(&self, known: Known, square: Square) -> Probe
         requires { Windowed square × KnowsAt self.now known square }
         ensures { ToldAt self.now square result.all result.known }
@@ -86,6 +88,7 @@ impl<'a> View<'a> {
     }
 
     // The same over a block of the window.
+    #[inline(always)]
     pub fn shown_over(&self, known: Known, block: Block) -> Probe
         requires { KnowsOver self.now known block }
         ensures { ToldOver self.now block result.all result.known }

@@ -25,7 +25,7 @@ pub record Aligned (n row column : ℕ) : Type 0 where
   pub row_lt : row < 2 ^ 21
   pub column_lt : column < 2 ^ 21
 
--- a map of size n, of which so much is known over a tile, has a tile there: its colour is known, or the map is at least as large as a tile
+-- what is known over a tile serves to decode it, in a map of size n: it is the colour, or the map is at least as large as a tile
 abbrev pub Serves : ℕ → Seen → Type 0
 Serves n (One c) = Unit {0}
 Serves n (Mixed h) = 4 ≤ n

@@ -47,7 +47,7 @@ tile_bytes s a b y x cells w t j = elim (dec_lt j 256) [
   | no h ↦ let e : get_or cells j 0 ≡ 0 = get_or_past cells j 0 (omega arith) in omega (arith, e)
 ]
 
--- ---- what was told
+-- ---- a block that shows one colour
 
 -- the cells of a block are its codes
 shows_flat : (s : Scene) (a b : List ℕ) (k y x level c : ℕ) → Block k y x level → Shows (cell_of s a b) y x level c → Flat (picture s a b) c level k
