@@ -110,7 +110,7 @@ pub extern "C" fn oboe_to_raster(n: u64, list: &[u64], cells: &mut [u8]) -> u64
     codes::number(oboeridge::to_raster(n, list, cells))
 }
 
-// The overlay under the operation that a number names, over the window of a frame.
+// The overlay under the operation that a number names, over the window of a frame: what C hands over, and so no `Map` yet.
 fn overlay(
     operation: u64,
     n: u64,

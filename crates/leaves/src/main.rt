@@ -23,7 +23,7 @@ fn read_full(input: &mut impl Read, text: &mut [u8]) -> usize
 }
 
 fn main(rt: HostRuntime) -> io::Result<()> {
-    // one byte more than is ever read tells an input that is too long
+    // no heap: arrays as long as the longest; one byte more than is ever read tells an input that is too long
     let mut text = [0; 65537];
     let got = read_full(&mut rt.stdin(), &mut text);
     let mut out = [0; 16384];

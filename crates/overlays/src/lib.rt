@@ -110,7 +110,8 @@ fn framed(n: u64, frame: Frame) -> Window
     }
 }
 
-// Writes the shortest list of two maps under an operation, the second shifted over the first, and counts its leaves.
+// Writes the shortest list of two maps under an operation, the second shifted over the first, and counts its leaves. A size and a list come
+// from a file or from C and are judged here, so they are no `Map` yet.
 pub fn overlay(
     operation: Operation,
     n: u64,

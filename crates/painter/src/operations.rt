@@ -15,7 +15,8 @@ impl Operation {
     ghost use Rattle.painter.specs.Operation.{combine};
     ghost use Rattle.painter.specs.Known.{Joint};
 
-    // The colour of a cell, from the first map's and the second's.
+    // The colour of a cell, from the first map's and the second's. A `match` and no closure: the three are named by number in C, and this is
+    // their table.
     pub fn combined(self, a: u8, b: u8) -> u8
         ensures { result ≡ combine self a b }
     {
@@ -37,7 +38,7 @@ impl Operation {
         }
     }
 
-    // What is settled by the second map's colour alone.
+    // What is settled by the second map's colour alone: other entries, so no second use of the table above.
     fn second_alone(self, b: u8) -> Seen
         ensures { (h : ℕ) → Joint self (Seen.Mixed h) (Seen.One b) result }
     {

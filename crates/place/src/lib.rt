@@ -31,7 +31,7 @@ pub struct Shift {
 }
 
 // A ground reference in 1024ths.
-#[derive(Clone, Copy)]
+#[derive(Clone, Copy, Debug, PartialEq, Eq)]
 struct Reading {
     north: i64,
     east: i64,

@@ -13,6 +13,7 @@ pub fn leaves(text: &[u8], out: &mut [u8; 16384]) -> usize
     ensures counted { result ≡ length (printed text.now) }
     ensures left { out.new ≡ printed text.now ++ drop (length (printed text.now)) out.old }
 {
+    // no heap: arrays as long as the longest, each with how much of it is used
     let mut cells = [0; 1024];
     let Ok(n) = pbm::read(text, &mut cells) else {
         return lines::put_text(out, b"refused 11\n");

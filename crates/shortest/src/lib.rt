@@ -83,7 +83,8 @@ pub fn joined(parts: Four<Part>) -> Part
     Part::Leaves(parts.nw.size() + parts.ne.size() + parts.sw.size() + parts.se.size())
 }
 
-// Stores a part that is one colour as the leaf of its block.
+// Stores a part that is one colour as the leaf of its block. The place goes beside the memory and not into a slice, here and below:
+// what a quarter left is overwritten if the four merge, so a place moves back.
 #[tactic(auto, unfolding(crate::specs::Part::size_of, crate::specs::Written::filled))]
 pub fn fill(out: &mut [u64], at: u64, part: Part, code: u64, level: u64)
     requires { Fills out.old at (number_of part) code level }

@@ -18,9 +18,6 @@ use refusal::Refusal;
 // The largest size of a map.
 pub const LIMIT: u64 = 12;
 
-// Colours are below this.
-pub const COLOURS: u64 = 256;
-
 // A size above the limit is refused, with its number.
 pub fn sized(n: u64, number: u64) -> Result<(), Refusal>
     ensures { result ≡ cond (ltb limit n) (Err (Refusal.Size number)) (Ok tt) }
@@ -31,7 +28,7 @@ pub fn sized(n: u64, number: u64) -> Result<(), Refusal>
     Ok(())
 }
 
-// The word of a leaf.
+// The word of a leaf: a number and no struct, since lists of such words are what is kept, and lent by C.
 pub fn leaf(code: u64, level: u64, colour: u8) -> u64
     requires { (code < 4 ^ highest) × (level ≤ highest) }
     ensures { result ≡ leaf code level colour }
