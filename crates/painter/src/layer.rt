@@ -12,7 +12,7 @@ use tiling::Map;
 
 // A map, where the window's first cell lies in it, at a biased row and column, and the steps of the window's tiles in it: the same for
 // all of them, since they are a tile's side apart.
-#[derive(Clone, Copy)]
+#[derive(Clone, Copy, Debug, PartialEq, Eq)]
 pub struct Layer<'a> {
     pub map: Map<'a>,
     pub row: u64,

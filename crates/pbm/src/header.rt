@@ -8,7 +8,7 @@ ghost use Rattle.pbm.specs.Steps.{capped, PastBlank, Numbered, Fielded, SizeOf, 
 use super::bytes;
 
 // What was read, and the text behind it.
-#[derive(Clone, Copy)]
+#[derive(Clone, Copy, Debug, PartialEq, Eq)]
 pub struct Read<'a> {
     pub value: u64,
     pub rest: &'a [u8],

@@ -49,7 +49,7 @@ fn put_row(tile: &[u8], order: &[u16; 256], first: usize, cells: &mut [u8], plac
 }
 
 // A map that is written out, and the order of a tile's cells, which is made once.
-#[derive(Clone, Copy)]
+#[derive(Clone, Copy, Debug, PartialEq, Eq)]
 struct Filler<'a> {
     map: Map<'a>,
     order: [u16; 256],

@@ -14,7 +14,7 @@ use morton::{Block, Four};
 use shortest::{Look, Part, Picture};
 
 // A map of size n, cell by cell.
-#[derive(Clone, Copy)]
+#[derive(Clone, Copy, Debug, PartialEq, Eq)]
 pub struct Raster<'a> {
     pub n: u64,
     pub cells: &'a [u8],

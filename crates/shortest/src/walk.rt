@@ -3,7 +3,7 @@ use super::{Part, finish, joined};
 use morton::Four;
 
 // What is seen of a block: the part that it comes to; or that its quarters are to be looked at, with what is known of them.
-#[derive(Clone, Copy)]
+#[derive(Clone, Copy, Debug, PartialEq, Eq)]
 pub enum Look<B> {
     Part(Part),
     Closer(B),

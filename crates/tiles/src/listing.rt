@@ -13,7 +13,7 @@ use morton::Four;
 use shortest::{Look, Part, Picture};
 
 // The colours of a block of 256 codes, of which this is the first.
-#[derive(Clone, Copy)]
+#[derive(Clone, Copy, Debug, PartialEq, Eq)]
 pub struct Tile<'a> {
     pub cells: &'a [u8],
     pub first: u64,

@@ -88,7 +88,7 @@ fn right_end(n: u64, whole: u64, end: u64, w: u64) -> Option<u64>
 }
 
 // A map of size n: the list of its leaves, which is well formed.
-#[derive(Clone, Copy)]
+#[derive(Clone, Copy, Debug, PartialEq, Eq)]
 pub struct Map<'a> {
     pub n: u64,
     pub list: &'a [u64],
