@@ -10,13 +10,14 @@ use Rattle.shortest.proofs.Parts.{part_cell}
 use Rattle.shortest.proofs.Quarters.{four_counted, ready}
 use Rattle.shortest.proofs.Written.{cell_inner}
 
+-- a single cell writes nothing by itself
+pub cell_wrote : (f : ℕ → ℕ) (k : ℕ) (o : List ℕ) (at p : ℕ) → p ≡ f k → Wrote f 0 k o o at p (size_of p)
+cell_wrote f k o at p e = record { is = e ∙ sym (part_cell f k); wrote = cell_inner f k o at; kept = refl; size = refl }
+
 module _ (f : ℕ → ℕ) (coloured : (j : ℕ) → f j < colours) (k : ℕ) {p₀ p₁ p₂ p₃ : ℕ} (e₀ : p₀ ≡ f k) (e₁ : p₁ ≡ f (k + 1)) (e₂ : p₂ ≡ f (k + 2)) (e₃ : p₃ ≡ f (k + 3)) where
-  -- a single cell is its own part, and writes nothing by itself
+  -- a single cell is its own part
   cell : (j p : ℕ) → p ≡ f j → p ≡ part f 0 j
   cell j p e = e ∙ sym (part_cell f j)
-
-  wrote : (j p : ℕ) (o : List ℕ) (at : ℕ) → p ≡ f j → Wrote f 0 j o o at p (size_of p)
-  wrote j p o at e = record { is = cell j p e; wrote = cell_inner f j o at; kept = refl; size = refl }
 
   pub cells_fit : size_of p₀ + size_of p₁ + size_of p₂ + size_of p₃ ≤ 4 ^ highest
   cells_fit = omega (arith, four_sizes f coloured 1 k (omega arith) p₀ p₁ p₂ p₃ (cell k p₀ e₀) (cell (k + 1) p₁ e₁) (cell (k + 2) p₂ e₂) (cell (k + 3) p₃ e₃))
@@ -26,5 +27,5 @@ module _ (f : ℕ → ℕ) (coloured : (j : ℕ) → f j < colours) (k : ℕ) {p
 
   pub cells_ready : k + 4 ≤ 4 ^ highest → (o : List ℕ) (at : ℕ) → Placed f o at 1 k → Ready f o o at 0 k p₀ p₁ p₂ p₃
   cells_ready fits o at h =
-      ready f coloured o at 0 k h o p₀ _ (wrote k p₀ o at e₀) o p₁ _ (wrote (k + 1) p₁ o _ e₁) o p₂ _ (wrote (k + 2) p₂ o _ e₂) o p₃ _ (wrote (k + 3) p₃ o _ e₃)
+      ready f coloured o at 0 k h o p₀ _ (cell_wrote f k o at p₀ e₀) o p₁ _ (cell_wrote f (k + 1) o _ p₁ e₁) o p₂ _ (cell_wrote f (k + 2) o _ p₂ e₂) o p₃ _ (cell_wrote f (k + 3) o _ p₃ e₃)
       (omega (arith, fits)) (omega arith)

@@ -110,6 +110,10 @@ judged_right n a m b s w h =
     let r = lists_pass n a m b (gives []) q.1 in
     record { first-size = p.0; second-size = p.1; window_size = p.2; near = q.0; first_tiles = r.0; second_tiles = r.1 }
 
+-- what is refused is refused whatever comes after
+pub bad_any : (v : Result (Unit {0}) Refusal) (r : Refusal) → v ≡ Err r → (x y : Outcome) → unless v x ≡ unless v y
+bad_any v r e x y = rw e
+
 -- what nothing refuses passes
 pub fine_passes : (v : Result (Unit {0}) Refusal) → v ≡ Ok tt → (x : Outcome) → unless v x ≡ x
 fine_passes v e x = rw e

@@ -1,6 +1,6 @@
 -- The painter's scene shows the overlay's cells: what is biased stands for the row and the column.
 use Rattle.std.specs.Prelude.{◌≡◌, List, [], ℕ, ◌+◌, ◌≤◌, ◌<◌, ℤ, pos, neg_ℤ, ◌+ℤ◌, ◌-ℤ◌, nat_abs, Result, Ok, Err}
-use Rattle.std.proofs.Common.{sym, ap, ◌∙◌, subst, arith, to_z, of_z}
+use Rattle.std.proofs.Common.{sym, ap, ◌∙◌, subst, arith, to_z, of_z, SFits}
 use Rattle.std.proofs.Math.Path.{ap₂}
 use Rattle.std.proofs.Math.IntN.{+ℤ_assoc, +ℤ_comm}
 use Rattle.std.specs.Int.{w64}
@@ -30,6 +30,7 @@ use Rattle.overlays.specs.declared.Frame.{Frame}
 use Rattle.overlays.specs.Scenes.{unless, scene_of}
 use Rattle.overlays.specs.Laws.Checks.{Near, Right, judged_right, fine_passes}
 use Rattle.overlays.specs.declared.Window.{Window}
+use Rattle.painter.specs.declared.scene.Scene.{Scene}
 
 -- ---- numbers that are near, as the code holds them
 pub near_back : (z : ℤ) → nat_abs z ≤ farthest_offset → to_z w64 (of_z w64 z) ≡ z
@@ -37,6 +38,16 @@ near_back z h = back (small_fits z (omega arith))
 
 pub apart : (w d : ℤ) → nat_abs w ≤ farthest_offset → nat_abs d ≤ farthest_offset → nat_abs (w -ℤ d) ≤ reach
 apart w d hw hd = omega (arith, abs_sum w (neg_ℤ d), abs_neg d)
+
+pub apart_fits : (w d : ℤ) → nat_abs w ≤ farthest_offset → nat_abs d ≤ farthest_offset → SFits w64 (w -ℤ d)
+apart_fits w d hw hd = small_fits (w -ℤ d) (omega (arith, apart w d hw hd))
+
+pub apart_held : (w d : ℤ) → nat_abs w ≤ farthest_offset → nat_abs d ≤ farthest_offset → to_z w64 (of_z w64 (to_z w64 (of_z w64 w) -ℤ to_z w64 (of_z w64 d))) ≡ w -ℤ d
+apart_held w d hw hd = ap₂ (λ (a b : ℤ). to_z w64 (of_z w64 (a -ℤ b))) (near_back w hw) (near_back d hd) ∙ back (apart_fits w d hw hd)
+
+pub scene_is : (o : Operation) (n m : ℕ) (s : Shift) (w : Window) (p q r t : ℕ) → p ≡ biased w.wy → q ≡ biased w.wx → r ≡ biased (w.wy -ℤ s.dy) → t ≡ biased (w.wx -ℤ s.dx)
+    → ◌≡◌ {A = Scene} (record { operation = o; n = n; m = m; ay = p; ax = q; by = r; bx = t }) (scene_of o n m s w)
+scene_is o n m s w p q r t e f g h = rw (e, f, g, h)
 
 -- ---- the cells
 moved : (w d : ℤ) (y : ℕ) → w -ℤ d +ℤ pos y ≡ w +ℤ pos y -ℤ d

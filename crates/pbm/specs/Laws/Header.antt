@@ -1,24 +1,50 @@
 -- Numbers, sizes and fields of a header.
-use Rattle.std.specs.Prelude.{◌≡◌, refl, Bool, true, false, ◌&&◌, cond, List, [], ◌∷◌, ℕ, zero, suc, ◌+◌, ◌*◌, ◌^◌, ◌≤◌, ◌<◌, eqb, drop}
+use Rattle.std.specs.Prelude.{◌≡◌, refl, Bool, true, false, ◌&&◌, cond, List, [], ◌∷◌, ℕ, zero, suc, ◌+◌, ◌*◌, ◌^◌, ◌≤◌, ◌<◌, eqb, drop, leb, length, get_or}
 use Rattle.std.proofs.Common.{sym, ap, ap₂, ◌∙◌, arith, take}
 use Rattle.std.specs.Cmp.Lexicographic.{pointwise}
 use Rattle.std.proofs.lemmas.Bool.{false≢true}
 use Rattle.std.proofs.Math.Nat.{pow-le-pow_right}
 use Rattle.std.proofs.Math.Dec.{ltb}
-use borrow.Author.Tests.{ne_eqb, eq-eqb, lt-ltb, le-ltb, ltb-true, ltb-false, eqb-true}
+use borrow.Author.Tests.{ne_eqb, eq-eqb, lt-ltb, le-ltb, ltb-true, ltb-false, eqb-true, leb-true}
 use Rattle.tiling.specs.Laws.Tests.{and_both, both_and, and_first, and_second}
 use Rattle.pbm.specs.Reading.{is_field, field, size_from, size_of_side, is_plain, at_width, at_height, size, is_header}
 use Rattle.pbm.specs.Steps.{capped}
+use Rattle.pbm.specs.Bytes.{is_digit}
 
 -- no side is above 32
 pub large_side : (v : ℕ) → 32 < v → size_of_side v ≡ 6
 unfolding size_from
 large_side v h = rw (ne_eqb v 1 (λ e. omega arith), ne_eqb v 2 (λ e. omega arith), ne_eqb v 4 (λ e. omega arith), ne_eqb v 8 (λ e. omega arith), ne_eqb v 16 (λ e. omega arith), ne_eqb v 32 (λ e. omega arith))
 
+pub no_side : (v : ℕ) → (v ≡ 1 → ⊥) → (v ≡ 2 → ⊥) → (v ≡ 4 → ⊥) → (v ≡ 8 → ⊥) → (v ≡ 16 → ⊥) → (v ≡ 32 → ⊥) → size_of_side v ≡ 6
+unfolding size_from
+no_side v a b c d e f = rw (ne_eqb v 1 a, ne_eqb v 2 b, ne_eqb v 4 c, ne_eqb v 8 d, ne_eqb v 16 e, ne_eqb v 32 f)
+
 pub capped_more : (v d : ℕ) → capped (10 * capped v + d) ≡ capped (10 * v + d)
 capped_more v d = omega arith
 
+pub digit_zero : (b : ℕ) → is_digit b ≡ true → 48 ≤ b
+digit_zero b e = leb-true 48 b (and_both (leb 48 b) (leb b 57) e).0
+
 -- whether a text begins with `P1`
+pub short_plain : (t : List ℕ) → length t < 2 → is_plain t ≡ false
+unfolding is_plain
+short_plain [] h = refl
+short_plain (p ∷ []) h = refl
+short_plain (p ∷ q ∷ t) h = absurd (omega arith)
+
+pub plain : (t : List ℕ) → 2 ≤ length t → is_plain t ≡ eqb (get_or t 0 0) 80 && eqb (get_or t 1 0) 49
+unfolding is_plain
+plain [] h = absurd (omega arith)
+plain (p ∷ []) h = absurd (omega arith)
+plain (p ∷ q ∷ t) h = refl
+
+pub plain_two : (t : List ℕ) → is_plain t ≡ true → 2 ≤ length t
+unfolding is_plain
+plain_two [] e = absurd (false≢true e)
+plain_two (p ∷ []) e = absurd (false≢true e)
+plain_two (p ∷ q ∷ t) e = omega arith
+
 pub plain-drop : (t : List ℕ) → is_plain t ≡ true → t ≡ 80 ∷ 49 ∷ drop 2 t
 unfolding is_plain
 plain-drop [] e = absurd (false≢true e)

@@ -1,6 +1,6 @@
 -- The ways in which a text is not read, and the way in which it is.
 use Rattle.std.specs.Prelude.{◌≡◌, refl, Bool, true, false, not, List, ◌++◌, ◌⊎◌, ℕ, ◌^◌, ◌≤◌, ◌<◌, ltb, eqb, length, take, drop}
-use Rattle.std.proofs.Common.{ap, ap₂, ◌∙◌, subst, inl, inr, arith, length-append}
+use Rattle.std.proofs.Common.{ap, ap₂, ◌∙◌, subst, inl, inr, arith, length-append, sym}
 use Rattle.std.proofs.Math.Seq.{take-append_seam}
 use borrow.Author.Tests.{lt-ltb, le-ltb, eq-eqb, ne_eqb, eqb-true, ltb-false, not-false}
 use Rattle.refusal.specs.Rules as rule
@@ -8,8 +8,13 @@ use Rattle.refusal.specs.Answer.{Answer, gives, refuses}
 use Rattle.pbm.specs.Bytes.{longest}
 use Rattle.pbm.specs.Reading.{is_header, only_cells, at_cells, cells, size, unread, picture}
 use Rattle.pbm.specs.Picture.{Picture}
-use Rattle.pbm.specs.Answers.{size_given}
+use Rattle.pbm.specs.Answers.{size_given, cells_given}
 use Rattle.pbm.specs.Laws.Header.{Headers, header-all}
+use Rattle.shortest.specs.Outcome.{left}
+
+-- what is known of the picture tells the answer and the memory
+pub tells : {x a : Answer Picture} → x ≡ a → (old : List ℕ) → (size_given a ≡ size_given x) × (left (cells_given a) old ≡ left (cells_given x) old)
+tells e old = (sym (ap size_given e), sym (ap (λ y. left (cells_given y) old) e))
 
 module _ (t : List ℕ) where
   pub too_long : longest < length t → picture t ≡ refuses rule.picture_text 0
@@ -81,6 +86,10 @@ read_or_refused t =
 pub given_picture : (x : Answer Picture) (n : ℕ) → gives n ≡ size_given x → (p : Picture) × (x ≡ gives p) × (n ≡ p.of_size)
 given_picture (gives p) n e = (p, refl, cc)
 given_picture (refuses r k) n e = cc
+
+pub refused_picture : (x : Answer Picture) (r k : ℕ) → refuses r k ≡ size_given x → x ≡ refuses r k
+refused_picture (gives p) r k e = cc
+refused_picture (refuses r' k') r k e = cc
 
 -- what stands at the front of the memory, taken back
 pub front : (l old new : List ℕ) (k : ℕ) → k ≡ length l → new ≡ l ++ drop (length l) old → (k ≤ length new) × (take k new ≡ l)

@@ -3,7 +3,7 @@ use Rattle.rasters.proofs.listing.Raster.count_squares.Goals.{After-quarters-qua
 use Rattle.std.proofs.Math.Path.{◌∙◌}
 use Rattle.std.proofs.Common.{arith}
 use Rattle.shortest.proofs.Steps.{counted_fits, counted_part}
-use Rattle.rasters.specs.Laws.Pixel.{quarter_of, closed, divisible}
+use Rattle.rasters.specs.Laws.Pixel.{quarter_of, divisible}
 use Rattle.rasters.proofs.listing.Raster.count_squares.Goals as goal
 
 pub joined-requires : goal.joined-requires
