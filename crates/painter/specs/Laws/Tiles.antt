@@ -1,6 +1,6 @@
 -- A tile of a scene, from those of its two maps; and the picture over the block that it is.
-use Rattle.std.specs.Prelude.{◌≡◌, List, ℕ, ◌+◌, ◌-◌, ◌%◌}
-use Rattle.std.proofs.Common.{sym, ap₂, ◌∙◌, arith}
+use Rattle.std.specs.Prelude.{◌≡◌, List, ℕ, ◌+◌, ◌-◌, ◌%◌, refl, Bool, true, false, ◌&&◌, ◌||◌, eqb, leb}
+use Rattle.std.proofs.Common.{sym, ap₂, ◌∙◌, arith, ⊎_elim, eqb-true, leb-true}
 use Rattle.morton.specs.Block.{Block}
 use Rattle.probe.specs.Biased.{cell_about}
 use Rattle.shortest.specs.Laws.Same.{Same}
@@ -10,8 +10,28 @@ use Rattle.tiles.specs.Listing as listing
 use Rattle.tiles.specs.Laws.Codes.{block_cell}
 use Rattle.painter.specs.Operation.{combine}
 use Rattle.painter.specs.Scene.{cell_of, picture}
-use Rattle.painter.specs.Tiled.{Combined}
+use Rattle.painter.specs.Tiled.{Combined, Tiled}
 use Rattle.painter.specs.declared.scene.Scene.{Scene}
+use Rattle.std.proofs.lemmas.Bool.{false≢true}
+use Rattle.tiling.specs.Laws.Tests.{and_both, or_either}
+use Rattle.probe.specs.declared.seen.Seen.{Seen}
+use Rattle.probe.specs.declared.seen.Seen.TheVariants.{One, Mixed}
+use Rattle.tiles.specs.Decoding.{Serves}
+
+-- the test: the level is a tile's, and of each map one colour is seen, or the map is as large
+abbrev pub one_seen : Seen → Bool
+one_seen (One c) = true
+one_seen (Mixed h) = false
+
+one_or_large : (k : Seen) (n : ℕ) → (one_seen k || leb 4 n) ≡ true → Serves n k
+one_or_large (One c) n h = tt
+one_or_large (Mixed p) n h = ⊎_elim (λ (a : false ≡ true). absurd (false≢true a)) (λ a. leb-true 4 n a) (or_either _ _ h)
+
+pub tiled_told : (s : Scene) (ka kb : Seen) (level : ℕ) → (eqb level 4 && (one_seen ka || leb 4 s.n) && (one_seen kb || leb 4 s.m)) ≡ true → Tiled s ka kb level
+tiled_told s ka kb level h =
+    let a = and_both _ _ h in
+    let b = and_both _ _ a.0 in
+    record { level_is = eqb-true level 4 b.0; first_large = one_or_large ka s.n b.1; second_large = one_or_large kb s.m a.1 }
 
 -- steps are the same a tile's side further on
 pub further : (v y : ℕ) → y % 16 ≡ 0 → v % 16 ≡ (v + y) % 16
@@ -39,3 +59,7 @@ block_same s a b k y x cells z t j lo hi =
     let e : k + i ≡ j = omega arith in
     let q = rw e at (block_cell y x k (omega (arith, z.bottom)) (omega (arith, z.right)) z.rows z.columns (sym z.is) i (omega arith)) in
     t.each i (omega arith) ∙ ap₂ (cell_of s a b) (sym q.0) (sym q.1)
+
+-- what is told of a block whose level is a tile's is told of a tile
+pub told_tiled : (s : Scene) (na nb : Seen) (level : ℕ) → Tiled s na nb level → Tiled s na nb 4
+told_tiled s na nb level t = record { level_is = refl; first_large = t.first_large; second_large = t.second_large }
