@@ -11,6 +11,8 @@ ghost use Rattle.tiling.specs.Map.{limit};
 ghost use Rattle.shortest.specs.Outcome.{written, left};
 ghost use Rattle.conversions.specs.Rasters.{raster_to_list, list_to_raster};
 
+use morton::Block;
+use rasters::Raster;
 use refusal::Refusal;
 use tiling::Map;
 
@@ -26,31 +28,24 @@ fn whole(n: u64, length: usize) -> Result<u64, Refusal>
     Ok(area)
 }
 
-// Writes the shortest list of a map of size n, given cell by cell, and counts its leaves. Where 4 ^ n words or more are lent every
-// list fits, and none is counted first.
+// Writes the shortest list of a map of size n, given cell by cell, and counts its leaves.
 #[tactic(auto, unfolding(crate::specs::Rasters::raster_to_list))]
 pub fn to_list(n: u64, cells: &[u8], out: &mut [u64]) -> Result<u64, Refusal>
     ensures answered { answered result ≡ written (raster_to_list n cells.now (length out.old)) }
     ensures left { out.new ≡ left (raster_to_list n cells.now (length out.old)) out.old }
 {
-    let whole = whole(n, cells.len())?;
-    if (out.len() as u64) < whole {
-        let leaves = rasters::leaves(n, cells);
-        if (out.len() as u64) < leaves {
-            return Err(Refusal::NoRoom(leaves));
-        }
-    }
-    Ok(rasters::write(n, cells, out))
+    whole(n, cells.len())?;
+    shortest::list(&Raster { n, cells }, Block::whole(n), out)
 }
 
 // Fills the raster of a map of size n, and counts its cells.
-#[tactic(auto, using(tiling::specs::Laws::Check::tiles_formed), unfolding(crate::specs::Rasters::list_to_raster))]
+#[tactic(auto, unfolding(crate::specs::Rasters::list_to_raster))]
 pub fn to_raster(n: u64, list: &[u64], cells: &mut [u8]) -> Result<u64, Refusal>
     ensures answered { answered result ≡ written (list_to_raster n list.now (length cells.old)) }
     ensures left { cells.new ≡ left (list_to_raster n list.now (length cells.old)) cells.old }
 {
     let whole = whole(n, cells.len())?;
-    tiling::check(n, list).map_err(|i| Refusal::FirstList(i as u64))?;
-    rasters::fill(&Map { n, list }, cells);
+    let map = Map::judged(n, list).map_err(|i| Refusal::FirstList(i as u64))?;
+    rasters::fill(&map, cells);
     Ok(whole)
 }

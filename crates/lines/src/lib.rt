@@ -1,11 +1,21 @@
-// The lines that the programs print: what was asked, and what a call answers.
+// What the programs share: the picture that they ask about, and the lines that they print, of what was asked and what a call answers.
 #![tactic(auto)]
 
 use refusal::Refusal;
 use std::io;
 
+// The list of the picture P.
+pub const P: [u64; 7] = [257, 262144, 327680, 393216, 458753, 524544, 786689];
+
 pub fn say(rt: &impl Print, text: &[u8]) -> io::Result<()> {
     rt.write_all(text)
+}
+
+// What was asked: of which call, and about what.
+pub fn asked(rt: &impl Print, call: &[u8], what: &[u8]) -> io::Result<()> {
+    say(rt, call)?;
+    say(rt, b", ")?;
+    say(rt, what)
 }
 
 // What a call answers that gives a number.
@@ -31,4 +41,10 @@ pub fn words(rt: &impl Print, list: &[u64]) -> io::Result<()> {
         print!(rt; " {word}")?;
     }
     println!(rt)
+}
+
+// What is left in memory that was lent, on one line.
+pub fn left(rt: &impl Print, lent: &[u64]) -> io::Result<()> {
+    say(rt, b"  left:")?;
+    words(rt, lent)
 }

@@ -20,25 +20,19 @@ pub enum Direction {
 }
 
 impl Direction {
-    // How many sides to the south it leads.
-    fn southward(self) -> i64
-        ensures { result ≡ southward self }
+    // How many sides away it leads, to the south and to the east.
+    fn away(self) -> (i64, i64)
+        ensures { result ≡ (southward self, eastward self) }
     {
         match self {
-            Direction::NorthWest | Direction::North | Direction::NorthEast => -1,
-            Direction::West | Direction::East => 0,
-            Direction::SouthWest | Direction::South | Direction::SouthEast => 1,
-        }
-    }
-
-    // How many sides to the east it leads.
-    fn eastward(self) -> i64
-        ensures { result ≡ eastward self }
-    {
-        match self {
-            Direction::NorthWest | Direction::West | Direction::SouthWest => -1,
-            Direction::North | Direction::South => 0,
-            Direction::NorthEast | Direction::East | Direction::SouthEast => 1,
+            Direction::North => (-1, 0),
+            Direction::NorthEast => (-1, 1),
+            Direction::East => (0, 1),
+            Direction::SouthEast => (1, 1),
+            Direction::South => (1, 0),
+            Direction::SouthWest => (1, -1),
+            Direction::West => (0, -1),
+            Direction::NorthWest => (-1, -1),
         }
     }
 }
@@ -73,8 +67,9 @@ pub fn neighbour(n: u64, code: u64, level: u64, direction: Direction) -> Result<
         return Err(Refusal::BlockAddress);
     }
     let side = morton::side(level);
-    let row = stepped(morton::row_of(code), direction.southward(), side);
-    let column = stepped(morton::column_of(code), direction.eastward(), side);
+    let (southward, eastward) = direction.away();
+    let row = stepped(morton::row_of(code), southward, side);
+    let column = stepped(morton::column_of(code), eastward, side);
     if !tiling::inside(n, row, column) {
         return Err(Refusal::Outside);
     }

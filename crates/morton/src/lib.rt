@@ -33,7 +33,7 @@ pub fn row_of(k: u64) -> u64
     gather(16, k / 2)
 }
 
-// The column of the cell whose code is k.
+// The column of the cell whose code is k. It and `row_of` share `gather`, and are two names since a cell has a row and a column.
 pub fn column_of(k: u64) -> u64
     ensures { result ≡ column_of k }
 {

@@ -4,7 +4,7 @@ ghost use Rattle.morton.specs.Code.{spread, code, bits};
 ghost use Rattle.morton.specs.Spreads.{Spreads};
 
 // The table of spread numbers. A constant array is built anew wherever it is named, so a caller makes one of these and lends it.
-#[derive(Drop)]
+#[derive(Drop, Debug, PartialEq, Eq)]
 pub struct Spread {
     numbers: [u16; 256],
     ghost spreads: { Spreads numbers },

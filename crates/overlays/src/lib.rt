@@ -4,20 +4,23 @@
 #![tactic(auto)]
 
 ghost use Rattle.std.specs.Prelude.{◌≡◌, ◌≤◌, nat_abs, ◌-ℤ◌, length};
+ghost use Rattle.refusal.specs.Judged.{unless};
 ghost use Rattle.refusal.specs.Read.{answered};
-ghost use Rattle.shortest.specs.Shortest.{shortest};
-ghost use Rattle.shortest.specs.Outcome.{Outcome, fitting, written, left};
+ghost use Rattle.shortest.specs.Outcome.{Outcome, written, left};
 ghost use Rattle.probe.specs.Biased.{biased};
 ghost use Rattle.painter.specs.Scene.{picture};
-ghost use Rattle.painter.specs.Painting.{Paints};
+ghost use Rattle.painter.specs.View.{picture_in};
 ghost use Rattle.place.specs.Placing.{farthest_offset};
 ghost use Rattle.overlays.specs.Overlay.{judged, window_of, overlaid, windowed};
-ghost use Rattle.overlays.specs.Scenes.{unless, scene_of};
+ghost use Rattle.overlays.specs.Scenes.{Maps, scene_of};
 ghost use Rattle.overlays.specs.Laws.Checks.{Near};
 
-use painter::{Operation, Scene};
+use morton::Spread;
+use painter::{Glance, Layer, Operation, View};
 use place::Shift;
+use probe::Chart;
 use refusal::Refusal;
+use tiling::Map;
 
 // A window: its first cell in the first map's rows and columns, and its size.
 #[derive(Clone, Copy, Debug, PartialEq, Eq)]
@@ -34,16 +37,18 @@ pub enum Frame {
     At(Window),
 }
 
-// All that is refused before anything is painted: the sizes, the offset and the window's origin, and the two lists, in that order.
-fn judge(
+// The two maps; or what is refused before anything is painted: the sizes, the offset and the window's origin, and the two lists, in that
+// order.
+fn judge<'a>(
     n: u64,
-    first: &[u64],
+    first: &'a [u64],
     m: u64,
-    second: &[u64],
+    second: &'a [u64],
     shift: Shift,
     window: Window,
-) -> Result<(), Refusal>
-    ensures { (x : Outcome) → unless result x ≡ judged n first.now m second.now shift window x }
+) -> Result<(Map<'a>, Map<'a>), Refusal>
+    ensures judged { (x : Outcome) → unless result x ≡ judged n first.now m second.now shift window x }
+    ensures maps { Maps n first.now m second.now result }
 {
     tiling::sized(n, 0)?;
     tiling::sized(m, 1)?;
@@ -52,24 +57,9 @@ fn judge(
     place::near(shift.dx, 1)?;
     place::near(window.wy, 2)?;
     place::near(window.wx, 3)?;
-    tiling::check(n, first).map_err(|i| Refusal::FirstList(i as u64))?;
-    tiling::check(m, second).map_err(|i| Refusal::SecondList(i as u64))
-}
-
-// The common ending: the shortest list of a scene, or the refusal that there is no room for it. Where 4 ^ w words or more are lent
-// every list fits, and none is counted first.
-fn painted(s: Scene, first: &[u64], second: &[u64], w: u64, out: &mut [u64]) -> Result<u64, Refusal>
-    requires { Paints s first.now second.now w }
-    ensures answered { answered result ≡ written (fitting (shortest (picture s first.now second.now) w 0) (length out.old)) }
-    ensures left { out.new ≡ left (fitting (shortest (picture s first.now second.now) w 0) (length out.old)) out.old }
-{
-    if (out.len() as u64) < morton::area(w) {
-        let leaves = painter::leaves(s, first, second, w);
-        if (out.len() as u64) < leaves {
-            return Err(Refusal::NoRoom(leaves));
-        }
-    }
-    Ok(painter::write(s, first, second, w, out))
+    let first = Map::judged(n, first).map_err(|i| Refusal::FirstList(i as u64))?;
+    let second = Map::judged(m, second).map_err(|i| Refusal::SecondList(i as u64))?;
+    Ok((first, second))
 }
 
 // The row or the column of the window's first cell in the second map, biased.
@@ -80,20 +70,28 @@ fn origin(w: i64, d: i64) -> u64
     probe::biased(w - d)
 }
 
-// Two maps under an operation, and where the window's first cell lies in each.
-#[tactic(auto, using(crate::specs::Laws::Scenes::near_back))]
-fn scene(operation: Operation, n: u64, m: u64, shift: Shift, window: Window) -> Scene
+// Two maps under an operation, as they lie under the window.
+fn view<'a>(
+    operation: Operation,
+    first: Map<'a>,
+    second: Map<'a>,
+    shift: Shift,
+    window: Window,
+    table: &'a Spread,
+) -> View<'a>
     requires { Near shift.dy shift.dx window.wy window.wx }
-    ensures { result ≡ scene_of operation n m shift window }
+    ensures { picture_in result ≡ picture (scene_of operation first.entry.n second.entry.n shift window) first.entry.list.now second.entry.list.now }
 {
-    Scene {
+    let first = Chart { map: first, table };
+    let second = Chart { map: second, table };
+    View {
         operation,
-        n,
-        m,
-        ay: probe::biased(window.wy),
-        ax: probe::biased(window.wx),
-        by: origin(window.wy, shift.dy),
-        bx: origin(window.wx, shift.dx),
+        first: Layer::new(first, probe::biased(window.wy), probe::biased(window.wx)),
+        second: Layer::new(
+            second,
+            origin(window.wy, shift.dy),
+            origin(window.wx, shift.dx),
+        ),
     }
 }
 
@@ -126,9 +124,10 @@ pub fn overlay(
     ensures left { out.new ≡ left (overlaid operation n first.now m second.now shift frame (length out.old)) out.old }
 {
     let window = framed(n, frame);
-    judge(n, first, m, second, shift, window)?;
-    let s = scene(operation, n, m, shift, window);
-    painted(s, first, second, window.size, out)
+    let (first, second) = judge(n, first, m, second, shift, window)?;
+    let table = Spread::new();
+    let view = view(operation, first, second, shift, window, &table);
+    shortest::list(&view, Glance::whole(window.size), out)
 }
 
 // Writes the shortest list of a window of one map, and counts its leaves. It is the union with a map of one WHITE cell.

@@ -2,8 +2,7 @@
 use Rattle.std.specs.Prelude.{List, ℕ, ◌≤◌, length}
 use Rattle.morton.specs.Power.{highest}
 use Rattle.shortest.specs.Shortest.{shortest}
-use Rattle.painter.specs.Scene.{picture, Scened}
-use Rattle.painter.specs.declared.scene.Scene.{Scene}
+use Rattle.painter.specs.Scene.{Scene, picture, Scened}
 
 -- a window of size w
 pub record Paints (s : Scene) (a b : List ℕ) (w : ℕ) : Type 0 where

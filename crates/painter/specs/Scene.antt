@@ -7,7 +7,17 @@ use Rattle.probe.specs.Seen.{Tells, Holds}
 use Rattle.probe.specs.declared.seen.Seen.{Seen}
 use Rattle.probe.specs.Biased.{cell_about}
 use Rattle.painter.specs.Operation.{combine}
-use Rattle.painter.specs.declared.scene.Scene.{Scene}
+use Rattle.painter.specs.declared.operations.Operation.{Operation}
+
+-- two maps of sizes n and m under an operation, and where the window's first cell lies in each, at biased rows and columns
+pub record Scene : Type 0 where
+  pub operation : Operation
+  pub n : ℕ
+  pub m : ℕ
+  pub ay : ℕ
+  pub ax : ℕ
+  pub by : ℕ
+  pub bx : ℕ
 
 -- the colour of the window's cell at row y, column x
 unfoldable pub cell_of : Scene → List ℕ → List ℕ → ℕ → ℕ → ℕ

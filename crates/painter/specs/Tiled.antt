@@ -4,7 +4,7 @@ use Rattle.probe.specs.declared.seen.Seen.{Seen}
 use Rattle.tiles.specs.Decoding.{Serves}
 use Rattle.painter.specs.Operation.{combine}
 use Rattle.painter.specs.declared.operations.Operation.{Operation}
-use Rattle.painter.specs.declared.scene.Scene.{Scene}
+use Rattle.painter.specs.Scene.{Scene}
 
 -- two tiles put together, cell by cell
 pub record Combined (operation : Operation) (first second after : List ℕ) : Type 0 where

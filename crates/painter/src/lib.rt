@@ -11,6 +11,6 @@ mod operations;
 mod painting;
 mod scene;
 
+pub use layer::Layer;
 pub use operations::Operation;
-pub use painting::{leaves, write};
-pub use scene::{Known, Probe, Scene, View};
+pub use scene::{Glance, Known, Probe, View};

@@ -1,5 +1,5 @@
 // The operations' table, and what is settled by what is known of the two maps over a block.
-ghost use Rattle.std.specs.Prelude.{◌≡◌, ℕ, length};
+ghost use Rattle.std.specs.Prelude.{◌≡◌, ℕ};
 ghost use Rattle.painter.specs.Tiled.{Combined};
 
 use probe::Seen;
@@ -63,8 +63,7 @@ impl Operation {
 }
 
 // Puts the cells of the second map's tile to those of the first map's.
-pub fn combine(operation: Operation, first: &mut [u8], second: &[u8])
-    requires { (length first.old ≡ 256) × (length second.now ≡ 256) }
+pub fn combine(operation: Operation, first: &mut [u8; 256], second: &[u8; 256])
     ensures { Combined operation first.old second.now first.new }
 {
     // the cells before j are put together

@@ -20,18 +20,14 @@ pub fn count(text: &[u8]) -> usize
     text.iter().filter(|b| !bytes::is_space(**b)).count()
 }
 
-// Writes the cells, one byte each.
+// Writes the cells, one byte each; the white space between them takes no room.
 pub fn put(text: &[u8], out: &mut [u8])
     requires only { only_cells text.now ≡ true }
     requires room { length (cells text.now) ≤ length out.old }
     ensures { out.new ≡ sets out.old 0 (cells text.now) }
 {
-    let mut k = 0;
-    // k cells are written; the white space between them takes no room
-    for b in text {
-        if !bytes::is_space(*b) {
-            out[k] = *b - b'0';
-            k += 1;
-        }
+    // k cells are written, and b is the next
+    for (k, b) in text.iter().filter(|b| !bytes::is_space(**b)).enumerate() {
+        out[k] = *b - b'0';
     }
 }

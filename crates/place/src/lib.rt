@@ -1,7 +1,8 @@
 // Placing: where the second map's upper left cell lies, in the first map's rows and columns. Rows grow southward, columns eastward.
 #![tactic(auto)]
 
-ghost use Rattle.std.specs.Prelude.{◌≡◌, ◌≤◌, pos, ◌<ℤ◌, cond, unsigned_abs};
+ghost use Rattle.std.specs.Prelude.{ℕ, ◌≡◌, ◌≤◌, pos, ◌<ℤ◌, ◌+◌, cond, unsigned_abs};
+ghost use Rattle.std.specs.Result.{IfOk, IfErr};
 ghost use Rattle.refusal.specs.Read.{answered};
 ghost use Rattle.place.specs.Placing.{reach, in1024ths, cell_side, exact, far, offsets, between, reading, on_ground, placed};
 ghost use Rattle.place.specs.Laws.Readings.{Within};
@@ -62,14 +63,16 @@ pub fn side(x: f64) -> Option<i64>
     scaled(x).filter(|n| *n > 0)
 }
 
-// A ground reference, or which of its three numbers is the first that is not usable.
-#[tactic(auto, unfolding(crate::specs::Placing::reading))]
-fn read(g: Ground) -> Result<Reading, u64>
-    ensures { result ≡ reading g }
+// A ground reference, or a refusal with the number of its first that is not usable: its three count from `first` on.
+#[tactic(auto, using(crate::specs::Laws::Readings::no_cell), unfolding(crate::specs::Placing::reading))]
+fn read(g: Ground, first: u64) -> Result<Reading, Refusal>
+    requires { first ≤ 3 }
+    ensures read { IfOk result (λ a. reading g ≡ Ok a) }
+    ensures refused { IfErr result (λ r. (k : ℕ) × (reading g ≡ Err k) × (r ≡ Refusal.GroundNumber (k + first))) }
 {
-    let north = scaled(g.north).ok_or(0u64)?;
-    let east = scaled(g.east).ok_or(1u64)?;
-    let cell = side(g.cell).ok_or(2u64)?;
+    let north = scaled(g.north).ok_or(Refusal::GroundNumber(first))?;
+    let east = scaled(g.east).ok_or(Refusal::GroundNumber(first + 1))?;
+    let cell = side(g.cell).ok_or(Refusal::GroundNumber(first + 2))?;
     Ok(Reading { north, east, cell })
 }
 
@@ -127,8 +130,8 @@ fn measured(a: Reading, b: Reading) -> Result<Shift, Refusal>
 fn on_ground(first: Ground, second: Ground) -> Result<Shift, Refusal>
     ensures { answered result ≡ on_ground first second }
 {
-    let a = read(first).map_err(|k| Refusal::GroundNumber(k))?;
-    let b = read(second).map_err(|k| Refusal::GroundNumber(k + 3))?;
+    let a = read(first, 0)?;
+    let b = read(second, 3)?;
     measured(a, b)
 }
 

@@ -8,6 +8,9 @@ ghost use Rattle.printing.specs.Lines.{printed};
 
 mod lines;
 
+use morton::Block;
+use rasters::Raster;
+
 // Writes what the program prints of a picture text, and says how many bytes that is. Lines of sixteen bytes would do for 1,024 leaves.
 pub fn leaves(text: &[u8], out: &mut [u8; 16384]) -> usize
     ensures counted { result ≡ length (printed text.now) }
@@ -20,6 +23,10 @@ pub fn leaves(text: &[u8], out: &mut [u8; 16384]) -> usize
     };
     let whole = morton::area(n) as usize;
     let mut list = [0; 1024];
-    let count = rasters::write(n, &cells[..whole], &mut list) as usize;
+    let raster = Raster {
+        n,
+        cells: &cells[..whole],
+    };
+    let count = shortest::write(&raster, Block::whole(n), &mut list) as usize;
     lines::put_lines(out, n, &list[..count])
 }

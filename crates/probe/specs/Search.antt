@@ -3,7 +3,8 @@ use Rattle.std.specs.Prelude.{List, ℕ, ◌^◌, ◌<◌, ◌≤◌, length, ge
 use Rattle.tiling.specs.Leaf.{code_of, end_of}
 use Rattle.tiling.specs.WellFormed.{WellFormed, end_before}
 
--- the list is well formed for some size, and the code lies in that square
+-- the list is well formed for some size, and the code lies in that square; it is said of a list whatever its size, and not of a `Map`,
+-- which names one: the search is handed a list alone, and no step of it reads a size
 pub record Spans (l : List ℕ) (k : ℕ) : Type 0 where
   pub size : ℕ
   pub formed : WellFormed size l

@@ -37,8 +37,8 @@ fn square(n: u64, cells: &mut [u8], block: Block, colour: u8)
 }
 
 // Stores sixteen cells of a tile, those from a place in its rows on, side by side.
-fn put_row(tile: &[u8], order: &[u16; 256], first: usize, cells: &mut [u8], place: usize)
-    requires { (length tile.now ≡ 256) × Order order.now × (first + 16 ≤ 256) × (place + 16 ≤ length cells.old) }
+fn put_row(tile: &[u8; 256], order: &[u16; 256], first: usize, cells: &mut [u8], place: usize)
+    requires { Order order.now × (first + 16 ≤ 256) × (place + 16 ≤ length cells.old) }
     ensures { Stored cells.old place (place + 16) (row_of_tile tile.now order.now first place) cells.new }
 {
     // the cells before i are stored
@@ -58,8 +58,8 @@ struct Filler<'a> {
 
 impl<'a> Filler<'a> {
     // Stores the tile of a block.
-    fn put_tile(&self, tile: &[u8], cells: &mut [u8], block: Block)
-        requires { (length tile.now ≡ 256) × (block.level ≡ 4) × Square self.now.map.n (length cells.old) block.row block.column 4 }
+    fn put_tile(&self, tile: &[u8; 256], cells: &mut [u8], block: Block)
+        requires { (block.level ≡ 4) × Square self.now.map.n (length cells.old) block.row block.column 4 }
         ensures { Rows self.now.map.n (tile_cell tile.now block.row block.column) block.row block.column 16 16 cells.old cells.new }
     {
         let width = morton::side(self.map.n);

@@ -1,10 +1,10 @@
 // From a raster to its list and back. A raster is one byte a cell, row by row.
 //
-// Read first: specs/Raster.antt; then `write`, which makes the shortest list of a raster, and `fill`, which makes the raster of a list.
+// Read first: specs/Raster.antt; then `Raster`, the picture of which a list is made, and `fill`, which makes the raster of a list.
 #![tactic(auto)]
 
 mod blocks;
 mod listing;
 
 pub use blocks::fill;
-pub use listing::{leaves, write};
+pub use listing::Raster;

@@ -4,14 +4,15 @@ use Rattle.std.proofs.Common.{refl, sym, ◌∙◌, arith}
 use Rattle.morton.specs.Power.{highest}
 use Rattle.tiling.specs.Leaf.{colours}
 use Rattle.shortest.specs.Part.{part, size_of, joined}
-use Rattle.shortest.specs.Written.{Placed}
+use Rattle.std.proofs.lemmas.List.Edits.{sets}
+use Rattle.shortest.specs.Written.{inner, finished, Finishes, Placed}
 use Rattle.shortest.specs.Laws.Quarters.{Wrote, Ready, four_sizes}
 use Rattle.shortest.proofs.Parts.{part_cell}
 use Rattle.shortest.proofs.Quarters.{four_counted, ready}
 use Rattle.shortest.proofs.Written.{cell_inner}
 
 -- a single cell writes nothing by itself
-pub cell_wrote : (f : ℕ → ℕ) (k : ℕ) (o : List ℕ) (at p : ℕ) → p ≡ f k → Wrote f 0 k o o at p (size_of p)
+cell_wrote : (f : ℕ → ℕ) (k : ℕ) (o : List ℕ) (at p : ℕ) → p ≡ f k → Wrote f 0 k o o at p (size_of p)
 cell_wrote f k o at p e = record { is = e ∙ sym (part_cell f k); wrote = cell_inner f k o at; kept = refl; size = refl }
 
 module _ (f : ℕ → ℕ) (coloured : (j : ℕ) → f j < colours) (k : ℕ) {p₀ p₁ p₂ p₃ : ℕ} (e₀ : p₀ ≡ f k) (e₁ : p₁ ≡ f (k + 1)) (e₂ : p₂ ≡ f (k + 2)) (e₃ : p₃ ≡ f (k + 3)) where
@@ -22,10 +23,19 @@ module _ (f : ℕ → ℕ) (coloured : (j : ℕ) → f j < colours) (k : ℕ) {p
   pub cells_fit : size_of p₀ + size_of p₁ + size_of p₂ + size_of p₃ ≤ 4 ^ highest
   cells_fit = omega (arith, four_sizes f coloured 1 k (omega arith) p₀ p₁ p₂ p₃ (cell k p₀ e₀) (cell (k + 1) p₁ e₁) (cell (k + 2) p₂ e₂) (cell (k + 3) p₃ e₃))
 
-  pub cells_part : joined p₀ p₁ p₂ p₃ ≡ part f 1 k
-  cells_part = four_counted f coloured 1 k (omega arith) p₀ p₁ p₂ p₃ (cell k p₀ e₀) (cell (k + 1) p₁ e₁) (cell (k + 2) p₂ e₂) (cell (k + 3) p₃ e₃)
+  -- they are a block of the level 1
+  module _ {L : ℕ} (one : L ≡ 1) where
+    pub cells_part : joined p₀ p₁ p₂ p₃ ≡ part f L k
+    cells_part = rw one (four_counted f coloured 1 k (omega arith) p₀ p₁ p₂ p₃ (cell k p₀ e₀) (cell (k + 1) p₁ e₁) (cell (k + 2) p₂ e₂) (cell (k + 3) p₃ e₃))
 
-  pub cells_ready : k + 4 ≤ 4 ^ highest → (o : List ℕ) (at : ℕ) → Placed f o at 1 k → Ready f o o at 0 k p₀ p₁ p₂ p₃
-  cells_ready fits o at h =
-      ready f coloured o at 0 k h o p₀ _ (cell_wrote f k o at p₀ e₀) o p₁ _ (cell_wrote f (k + 1) o _ p₁ e₁) o p₂ _ (cell_wrote f (k + 2) o _ p₂ e₂) o p₃ _ (cell_wrote f (k + 3) o _ p₃ e₃)
-      (omega (arith, fits)) (omega arith)
+    module _ (fits : k + 4 ≤ 4 ^ highest) {o : List ℕ} {at : ℕ} (h : Placed f o at L k) where
+      done : Ready f o o at 0 k p₀ p₁ p₂ p₃
+      done =
+          ready f coloured o at 0 k (rw one at h) o p₀ _ (cell_wrote f k o at p₀ e₀) o p₁ _ (cell_wrote f (k + 1) o _ p₁ e₁) o p₂ _ (cell_wrote f (k + 2) o _ p₂ e₂) o p₃ _ (cell_wrote f (k + 3) o _ p₃ e₃)
+          (omega (arith, fits)) (omega arith)
+
+      pub cells_finish : Finishes o at p₀ p₁ p₂ p₃ k 0
+      cells_finish = done.finishes
+
+      pub cells_wrote : finished o at p₀ p₁ p₂ p₃ k 0 ≡ sets o at (inner f L k)
+      cells_wrote = rw one done.written

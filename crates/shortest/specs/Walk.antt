@@ -2,14 +2,14 @@
 use Rattle.std.specs.Prelude.{◌≡◌, ℕ, ◌+◌, ◌*◌, ◌-◌, ◌^◌, ◌≤◌, ◌<◌}
 use Rattle.morton.specs.Power.{highest}
 use Rattle.tiling.specs.Leaf.{colours}
-use Rattle.shortest.specs.declared.Part.{Part}
 use Rattle.shortest.specs.declared.walk.Look.{Look}
-use Rattle.shortest.specs.declared.walk.Look.TheVariants.{Part as Whole, Closer}
+use Rattle.shortest.specs.declared.walk.Look.TheVariants.{One, Small, Closer}
 
--- one fact of a part that was seen at once, another of a block that is to be looked at closer
-abbrev pub Sees : {B : Type 0} → Look B → (Part → Type 0) → (B → Type 0) → Type 0
-Sees (Whole p) P Q = P p
-Sees (Closer b) P Q = Q b
+-- one fact of the colour that was seen, another of a small block, another of a block whose quarters are to be looked at
+abbrev pub Sees : {B : Type 0} → Look B → (ℕ → Type 0) → (B → Type 0) → (B → Type 0) → Type 0
+Sees (One c) P Q R = P c
+Sees (Small b) P Q R = Q b
+Sees (Closer b) P Q R = R b
 
 -- the block of level l at the code c is the quarter i of the block of level L at the code k
 pub record Quarter (k L i c l : ℕ) : Type 0 where

@@ -4,7 +4,7 @@
 // them. A quarter of one colour is not stored before it is known that the four do not merge: so no word past the final list is ever
 // touched.
 //
-// Read first: specs/Shortest.antt, and specs/Demand.antt for what is proved of it; then `finish`.
+// Read first: specs/Shortest.antt, and specs/Demand.antt for what is proved of it; then `list`, which makes the list, and `finish`.
 #![tactic(auto)]
 
 ghost use Rattle.std.specs.Prelude.{◌≡◌, eqb, ◌+◌, ◌^◌, ◌≤◌};
@@ -15,8 +15,10 @@ ghost use Rattle.shortest.specs.Written.{filled, settled, finished, Fills, Settl
 
 use morton::Four;
 
+mod lists;
 mod walk;
 
+pub use lists::{leaves, list, write};
 pub use walk::{Look, Picture, count, put};
 
 // What a block comes to: the colour of all of it, or the number of leaves of its shortest list.

@@ -2,10 +2,12 @@
 use super::{Part, finish, joined};
 use morton::Four;
 
-// What is seen of a block: the part that it comes to; or that its quarters are to be looked at, with what is known of them.
+// What is seen of a block: that it is of one colour; that it is so small that the picture makes its list at once; or that its quarters are
+// to be looked at. With the last two goes what is known from then on.
 #[derive(Clone, Copy, Debug, PartialEq, Eq)]
 pub enum Look<B> {
-    Part(Part),
+    One(u8),
+    Small(B),
     Closer(B),
 }
 
@@ -33,7 +35,9 @@ pub trait Picture {
     // It is a block of the picture, and what is known of it is right.
     ghost Lies: { Self → Self.Block → Type 0 };
 
-    // The same, of a block whose quarters are to be looked at.
+    // The same, of a block whose list is made at once, and of one whose quarters are to be looked at.
+    ghost Small: { Self → Self.Block → Type 0 };
+
     ghost Opens: { Self → Self.Block → Type 0 };
 
     fn code(block: Self::Block) -> u64
@@ -45,13 +49,18 @@ pub trait Picture {
     // What is seen of a block.
     fn look(&self, block: Self::Block) -> Look<Self::Block>
         requires { Lies self.now block }
-        ensures { Sees result (λ p. number_of p ≡ part (colour_at self.now) (level_of block) (code_of block)) (λ b. (0 < level_of block) × (level_of b ≡ level_of block) × (code_of b ≡ code_of block) × Opens self.now b) };
+        ensures { Sees result (λ c. c ≡ part (colour_at self.now) (level_of block) (code_of block)) (λ b. (level_of b ≡ level_of block) × (code_of b ≡ code_of block) × Small self.now b) (λ b. (0 < level_of block) × (level_of b ≡ level_of block) × (code_of b ≡ code_of block) × Opens self.now b) };
 
-    // The same, and the list of a block whose part is seen is written from `at` on, or nothing if it is of one colour.
-    fn draw(&self, block: Self::Block, out: &mut [u64], at: u64) -> Look<Self::Block>
-        requires { Lies self.now block × Placed (colour_at self.now) out.old at (level_of block) (code_of block) }
-        ensures seen { Sees result (λ p. number_of p ≡ part (colour_at self.now) (level_of block) (code_of block)) (λ b. (0 < level_of block) × (level_of b ≡ level_of block) × (code_of b ≡ code_of block) × Opens self.now b) }
-        ensures left { Sees result (λ p. out.new ≡ sets out.old at (inner (colour_at self.now) (level_of block) (code_of block))) (λ b. out.new ≡ out.old) };
+    // What a small block comes to.
+    fn count_small(&self, block: Self::Block) -> Part
+        requires { Small self.now block }
+        ensures { number_of result ≡ part (colour_at self.now) (level_of block) (code_of block) };
+
+    // Writes the list of a small block from `at` on, or nothing if it is of one colour; what the block comes to.
+    fn put_small(&self, block: Self::Block, out: &mut [u64], at: u64) -> Part
+        requires { Small self.now block × Placed (colour_at self.now) out.old at (level_of block) (code_of block) }
+        ensures part { number_of result ≡ part (colour_at self.now) (level_of block) (code_of block) }
+        ensures left { out.new ≡ sets out.old at (inner (colour_at self.now) (level_of block) (code_of block)) };
 
     // The quarters of a block that is to be looked at closer.
     fn quarters(&self, block: Self::Block) -> Four<Self::Block>
@@ -74,19 +83,21 @@ ghost use Rattle.shortest.specs.Coded.{number_of};
 ghost use Rattle.shortest.specs.Written.{inner, Placed};
 ghost use Rattle.shortest.specs.Walk.{Divisible};
 
-// What a block comes to.
+// What a block comes to. Inlined, so that a small block costs no call.
 #[cycle(counts)]
+#[inline(always)]
 pub fn count<P: Picture>(picture: &P, block: P::Block) -> Part
     requires { P.Lies picture.now block }
     ensures { number_of result ≡ part (P.colour_at picture.now) (P.level_of block) (P.code_of block) }
 {
     match picture.look(block) {
-        Look::Part(part) => part,
+        Look::One(colour) => Part::Colour(colour),
+        Look::Small(block) => picture.count_small(block),
         Look::Closer(block) => count_quarters(picture, block),
     }
 }
 
-// The same of a block whose quarters are to be looked at. It stands apart since most blocks need no memory for quarters.
+// The same of a block whose quarters are to be looked at. It stands apart since no other block needs memory for quarters.
 #[cycle(counts)]
 fn count_quarters<P: Picture>(picture: &P, block: P::Block) -> Part
     requires { P.Opens picture.now block × Divisible (P.colour_at picture.now) (P.level_of block) (P.code_of block) }
@@ -100,20 +111,22 @@ fn count_quarters<P: Picture>(picture: &P, block: P::Block) -> Part
     joined(Four { nw, ne, sw, se })
 }
 
-// Writes the list of a block from `at` on, or nothing if it is of one colour; what the block comes to.
+// Writes the list of a block from `at` on, or nothing if it is of one colour; what the block comes to. Inlined for the same reason.
 #[cycle(puts)]
+#[inline(always)]
 pub fn put<P: Picture>(picture: &P, block: P::Block, out: &mut [u64], at: u64) -> Part
     requires { P.Lies picture.now block × Placed (P.colour_at picture.now) out.old at (P.level_of block) (P.code_of block) }
     ensures part { number_of result ≡ part (P.colour_at picture.now) (P.level_of block) (P.code_of block) }
     ensures left { out.new ≡ sets out.old at (inner (P.colour_at picture.now) (P.level_of block) (P.code_of block)) }
 {
-    match picture.draw(block, out, at) {
-        Look::Part(part) => part,
+    match picture.look(block) {
+        Look::One(colour) => Part::Colour(colour),
+        Look::Small(block) => picture.put_small(block, out, at),
         Look::Closer(block) => put_quarters(picture, block, out, at),
     }
 }
 
-// The same of a block whose quarters are to be looked at, apart for the same reason.
+// The same of a block whose quarters are to be looked at.
 #[cycle(puts)]
 fn put_quarters<P: Picture>(picture: &P, block: P::Block, out: &mut [u64], at: u64) -> Part
     requires { P.Opens picture.now block × Divisible (P.colour_at picture.now) (P.level_of block) (P.code_of block) × Placed (P.colour_at picture.now) out.old at (P.level_of block) (P.code_of block) }

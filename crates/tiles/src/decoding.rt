@@ -8,8 +8,8 @@ ghost use Rattle.tiles.specs.Tile.{Stored, Tile, Steps, plain, codes, tile_of};
 ghost use Rattle.tiles.specs.Decoding.{Decodes, Aligned, About, last_of};
 
 use morton::Spread;
-use probe::Seen;
 use probe::square::{BEYOND, BIAS};
+use probe::{Chart, Seen};
 use tiling::Map;
 
 // The level of a tile; it has 16 cells a side, 256 in all.
@@ -67,36 +67,28 @@ pub fn decode(map: &Map, code: u64, hint: usize, cells: &mut [u8], from: usize)
 }
 
 // Stores the cells of the aligned block at a biased row and column, which may lie beyond the map.
-fn block(
-    map: &Map,
-    table: &Spread,
-    hint: usize,
-    row: u64,
-    column: u64,
-    cells: &mut [u8],
-    from: usize,
-)
-    requires { Aligned map.now.n row column × (from + 256 ≤ length cells.old) × (length cells.old ≤ 1024) }
-    ensures { Stored cells.old from (from + 256) (tile_of (cell_about map.now.n map.now.list.now) row column from) cells.new }
+fn block(chart: &Chart, hint: usize, row: u64, column: u64, cells: &mut [u8], from: usize)
+    requires { Aligned chart.now.map.n row column × (from + 256 ≤ length cells.old) × (length cells.old ≤ 1024) }
+    ensures { Stored cells.old from (from + 256) (tile_of (cell_about chart.now.map.n chart.now.map.list.now) row column from) cells.new }
 {
-    let end = BIAS + morton::side(map.n);
+    let end = BIAS + morton::side(chart.map.n);
     if (row + 16 <= BIAS) | (column + 16 <= BIAS) | (end <= row) | (end <= column) {
         store(cells, from, from + 256, BEYOND);
         return;
     }
-    let code = table.code_of(row - BIAS, column - BIAS);
-    decode(map, code, hint, cells, from);
+    let code = chart.table.code_of(row - BIAS, column - BIAS);
+    decode(&chart.map, code, hint, cells, from);
 }
 
 // Decodes the square of two aligned blocks a side at a biased row and column.
-fn decode_four(map: &Map, table: &Spread, hint: usize, row: u64, column: u64, cells: &mut [u8])
-    requires { (length cells.old ≡ 1024) × Aligned map.now.n row column × Aligned map.now.n (row + 16) (column + 16) }
-    ensures { Tile (cell_about map.now.n map.now.list.now) row column 1024 cells.new }
+fn decode_four(chart: &Chart, hint: usize, row: u64, column: u64, cells: &mut [u8; 1024])
+    requires { Aligned chart.now.map.n row column × Aligned chart.now.map.n (row + 16) (column + 16) }
+    ensures { Tile (cell_about chart.now.map.n chart.now.map.list.now) row column 1024 cells.new }
 {
-    block(map, table, hint, row, column, cells, 0);
-    block(map, table, hint, row, column + 16, cells, 256);
-    block(map, table, hint, row + 16, column, cells, 512);
-    block(map, table, hint, row + 16, column + 16, cells, 768);
+    block(chart, hint, row, column, cells, 0);
+    block(chart, hint, row, column + 16, cells, 256);
+    block(chart, hint, row + 16, column, cells, 512);
+    block(chart, hint, row + 16, column + 16, cells, 768);
 }
 
 // Where each cell of a tile stands that lies so many rows and columns within four aligned blocks.
@@ -116,8 +108,8 @@ pub fn steps(row: u64, column: u64, table: &Spread) -> [u16; 256]
 }
 
 // Takes the cells of a tile from those of four blocks, by their steps.
-fn gather(steps: &[u16; 256], four: &[u8; 1024], cells: &mut [u8])
-    requires { (length cells.old ≡ 256) × ((j : ℕ) → j < 256 → get_or steps.now j 0 < 1024) }
+fn gather(steps: &[u16; 256], four: &[u8; 1024], cells: &mut [u8; 256])
+    requires { (j : ℕ) → j < 256 → get_or steps.now j 0 < 1024 }
     ensures { (j : ℕ) → j < 256 → get_or cells.new j 0 ≡ get_or four.now (get_or steps.now j 0) 0 }
 {
     // the cells before j are there
@@ -128,16 +120,15 @@ fn gather(steps: &[u16; 256], four: &[u8; 1024], cells: &mut [u8])
 
 // Decodes the tile anywhere about a map, at a biased row and column.
 pub fn tile(
-    map: &Map,
-    table: &Spread,
+    chart: &Chart,
     known: Seen,
     row: u64,
     column: u64,
     steps: &[u16; 256],
-    cells: &mut [u8],
+    cells: &mut [u8; 256],
 )
-    requires { (length cells.old ≡ 256) × About map.now.n map.now.list.now known row column steps.now }
-    ensures { Tile (cell_about map.now.n map.now.list.now) row column 256 cells.new }
+    requires { About chart.now.map.n chart.now.map.list.now known row column steps.now }
+    ensures { Tile (cell_about chart.now.map.n chart.now.map.list.now) row column 256 cells.new }
 {
     let hint = match known {
         Seen::One(colour) => {
@@ -149,10 +140,10 @@ pub fn tile(
     let down = row % 16;
     let right = column % 16;
     if (down == 0) & (right == 0) {
-        block(map, table, hint, row, column, cells, 0);
+        block(chart, hint, row, column, cells, 0);
         return;
     }
     let mut four = [0; 1024];
-    decode_four(map, table, hint, row - down, column - right, &mut four);
+    decode_four(chart, hint, row - down, column - right, &mut four);
     gather(steps, &four, cells);
 }

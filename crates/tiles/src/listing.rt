@@ -1,12 +1,9 @@
 // A tile as a picture, of which a list is made.
-ghost use Rattle.std.specs.Prelude.{◌≡◌, true, ℕ, ◌+◌, ◌^◌, ◌<◌, ◌≤◌, length, get_or};
-ghost use Rattle.std.proofs.lemmas.List.Edits.{sets};
+ghost use Rattle.std.specs.Prelude.{◌≡◌, true, ℕ, ◌+◌, ◌^◌, ◌<◌, ◌≤◌, get_or};
 ghost use Rattle.morton.specs.Power.{highest};
 ghost use Rattle.tiling.specs.Leaf.{colours};
-ghost use Rattle.shortest.specs.Part.{part};
 ghost use Rattle.shortest.specs.Coded.{number_of};
 ghost use Rattle.shortest.specs.Laws.Flat.{Flat};
-ghost use Rattle.shortest.specs.Written.{inner, Placed};
 ghost use Rattle.tiles.specs.Listing.{spots, Counts};
 
 use morton::Four;
@@ -15,9 +12,8 @@ use shortest::{Look, Part, Picture};
 // The colours of a block of 256 codes, of which this is the first.
 #[derive(Clone, Copy, Debug, PartialEq, Eq)]
 pub struct Tile<'a> {
-    pub cells: &'a [u8],
+    pub cells: &'a [u8; 256],
     pub first: u64,
-    pub ghost whole: { length cells.now ≡ 256 },
     pub ghost small: { first + 256 ≤ 4 ^ highest },
     pub ghost bytes: { (j : ℕ) → get_or cells.now j 0 < colours },
 }
@@ -49,14 +45,15 @@ impl<'a> Tile<'a> {
         self.cells[i]
     }
 
-    // The colours of the four cells from the code k on.
-    fn four(&self, k: u64) -> Four<Part>
-        requires { Counts self.now.first k 1 }
-        ensures nw { number_of result.nw ≡ spots self.now.cells.now self.now.first k }
-        ensures ne { number_of result.ne ≡ spots self.now.cells.now self.now.first (k + 1) }
-        ensures sw { number_of result.sw ≡ spots self.now.cells.now self.now.first (k + 2) }
-        ensures se { number_of result.se ≡ spots self.now.cells.now self.now.first (k + 3) }
+    // The colours of a block of four cells.
+    fn four(&self, block: Spot) -> Four<Part>
+        requires { (block.level ≡ 1) × Counts self.now.first block.code block.level }
+        ensures nw { number_of result.nw ≡ spots self.now.cells.now self.now.first block.code }
+        ensures ne { number_of result.ne ≡ spots self.now.cells.now self.now.first (block.code + 1) }
+        ensures sw { number_of result.sw ≡ spots self.now.cells.now self.now.first (block.code + 2) }
+        ensures se { number_of result.se ≡ spots self.now.cells.now self.now.first (block.code + 3) }
     {
+        let k = block.code;
         Four {
             nw: Part::Colour(self.cell(k)),
             ne: Part::Colour(self.cell(k + 1)),
@@ -72,25 +69,9 @@ impl<'a> Tile<'a> {
     {
         let from = (block.code - self.first) as usize;
         let to = from + morton::area(block.level) as usize;
-        let colour = self.cells[from];
-        self.cells[from..to].iter().all(|cell| *cell == colour)
-    }
-
-    // What four cells come to.
-    fn count_cells(&self, k: u64) -> Part
-        requires { Counts self.now.first k 1 }
-        ensures { number_of result ≡ part (spots self.now.cells.now self.now.first) 1 k }
-    {
-        shortest::joined(self.four(k))
-    }
-
-    // Writes the list of four cells from `at` on, or nothing if they are of one colour; what they come to.
-    fn put_cells(&self, k: u64, out: &mut [u64], at: u64) -> Part
-        requires { Counts self.now.first k 1 × Placed (spots self.now.cells.now self.now.first) out.old at 1 k }
-        ensures part { number_of result ≡ part (spots self.now.cells.now self.now.first) 1 k }
-        ensures left { out.new ≡ sets out.old at (inner (spots self.now.cells.now self.now.first) 1 k) }
-    {
-        shortest::finish(out, at, self.four(k), k, 0)
+        let cells = self.cells;
+        let colour = cells[from];
+        cells[from..to].iter().all(|cell| *cell == colour)
     }
 }
 
@@ -108,6 +89,8 @@ impl<'a> Picture for Tile<'a> {
 
     ghost Lies = { λ t b. Counts t.first b.code b.level };
 
+    ghost Small = { λ t b. (b.level ≡ 1) × Counts t.first b.code b.level };
+
     ghost Opens = { λ t b. (1 < b.level) × Counts t.first b.code b.level };
 
     fn code(block: Spot) -> u64
@@ -124,22 +107,20 @@ impl<'a> Picture for Tile<'a> {
 
     fn look(&self, block: Spot) -> Look<Spot> {
         if block.level == 1 {
-            return Look::Part(self.count_cells(block.code));
+            return Look::Small(block);
         }
         if self.alike(block) {
-            return Look::Part(Part::Colour(self.cell(block.code)));
+            return Look::One(self.cell(block.code));
         }
         Look::Closer(block)
     }
 
-    fn draw(&self, block: Spot, out: &mut [u64], at: u64) -> Look<Spot> {
-        if block.level == 1 {
-            return Look::Part(self.put_cells(block.code, out, at));
-        }
-        if self.alike(block) {
-            return Look::Part(Part::Colour(self.cell(block.code)));
-        }
-        Look::Closer(block)
+    fn count_small(&self, block: Spot) -> Part {
+        shortest::joined(self.four(block))
+    }
+
+    fn put_small(&self, block: Spot, out: &mut [u64], at: u64) -> Part {
+        shortest::finish(out, at, self.four(block), block.code, 0)
     }
 
     fn quarters(&self, block: Spot) -> Four<Spot> {

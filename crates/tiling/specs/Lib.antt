@@ -3,4 +3,5 @@ pub mod WellFormed
 pub mod IsMap
 pub mod Map
 pub mod Check
+pub mod Judged
 pub mod Laws

@@ -15,7 +15,8 @@ ghost use Rattle.tiling.specs.Check.{right_end, checked};
 use morton::Spread;
 use refusal::Refusal;
 
-// The largest size of a map.
+// The largest size of a map. A size is a number and no type of its own: where a contract asks `n ≤ highest`, `sized`, a `Map` or the
+// caller's own contract has just said so and the check finds it; a type would be taken apart at each `side` and `area` and definition.
 pub const LIMIT: u64 = 12;
 
 // A size above the limit is refused, with its number.
@@ -93,6 +94,20 @@ pub struct Map<'a> {
     pub n: u64,
     pub list: &'a [u64],
     pub ghost is: { IsMap n list.now },
+}
+
+impl<'a> Map<'a> {
+    ghost use Rattle.tiling.specs.Judged.{Judges};
+
+    // The map of size n, if the list is well formed for it; else what is wrong, as `check` says it.
+    #[tactic(auto, using(crate::specs::Laws::Check::tiles_formed))]
+    pub fn judged(n: u64, list: &'a [u64]) -> Result<Map<'a>, usize>
+        requires { n ≤ highest }
+        ensures { Judges n list.now result }
+    {
+        check(n, list)?;
+        Ok(Map { n, list })
+    }
 }
 
 // The check of a list for a map of size n. What is wrong is the position of the first wrong entry, or the length if the list stops short.

@@ -2,18 +2,17 @@
 // what the paper says that they answer.
 #![tactic(auto)]
 
+use lines::P;
 use oboeridge::{Cell, Direction};
 use std::io;
 
 fn check(rt: &impl Print, what: &[u8], n: u64, list: &[u64]) -> io::Result<()> {
-    lines::say(rt, b"list check, ")?;
-    lines::say(rt, what)?;
+    lines::asked(rt, b"list check", what)?;
     lines::answer(rt, oboeridge::check(n, list))
 }
 
 fn lookup(rt: &impl Print, what: &[u8], n: u64, list: &[u64], cell: Cell) -> io::Result<()> {
-    lines::say(rt, b"lookup, ")?;
-    lines::say(rt, what)?;
+    lines::asked(rt, b"lookup", what)?;
     lines::answer(rt, oboeridge::lookup(n, list, cell).map(u64::from))
 }
 
@@ -25,8 +24,7 @@ fn neighbour(
     level: u64,
     direction: Direction,
 ) -> io::Result<()> {
-    lines::say(rt, b"neighbour, ")?;
-    lines::say(rt, what)?;
+    lines::asked(rt, b"neighbour", what)?;
     lines::answer(rt, oboeridge::neighbour(n, code, level, direction))
 }
 
@@ -38,16 +36,13 @@ fn to_list<'a>(
     cells: &'a [u8],
     lent: &mut [u64],
 ) -> io::Result<()> {
-    lines::say(rt, b"raster to list, ")?;
-    lines::say(rt, what)?;
+    lines::asked(rt, b"raster to list", what)?;
     lines::answer(rt, oboeridge::to_list(n, cells, lent))?;
-    lines::say(rt, b"  left:")?;
-    lines::words(rt, lent)
+    lines::left(rt, lent)
 }
 
 fn to_raster<'a>(rt: &impl Print, what: &'a [u8], n: u64, list: &'a [u64]) -> io::Result<()> {
-    lines::say(rt, b"list to raster, ")?;
-    lines::say(rt, what)?;
+    lines::asked(rt, b"list to raster", what)?;
     let mut cells = [9u8; 16];
     lines::answer(rt, oboeridge::to_raster(n, list, &mut cells))
 }
@@ -67,14 +62,14 @@ fn lists(rt: &impl Print) -> io::Result<()> {
     )
 }
 
-fn rasters(rt: &impl Print, picture: &[u64]) -> io::Result<()> {
-    to_raster(rt, b"P", 2, picture)?;
+fn rasters(rt: &impl Print) -> io::Result<()> {
+    to_raster(rt, b"P", 2, &P)?;
     to_raster(rt, b"16 cells for size 1", 1, &[257])?;
     to_raster(rt, b"a list that stops short", 2, &[257])
 }
 
-fn checks(rt: &impl Print, picture: &[u64]) -> io::Result<()> {
-    check(rt, b"P", 2, picture)?;
+fn checks(rt: &impl Print) -> io::Result<()> {
+    check(rt, b"P", 2, &P)?;
     check(rt, b"four alike brothers", 1, &[1, 65537, 131073, 196609])?;
     check(rt, b"three leaves of four", 1, &[0, 65536, 131072])?;
     check(rt, b"the empty list", 1, &[])
@@ -91,17 +86,17 @@ fn sizes(rt: &impl Print) -> io::Result<()> {
     check(rt, b"size 13", 13, &[3328])
 }
 
-fn lookups(rt: &impl Print, picture: &[u64]) -> io::Result<()> {
+fn lookups(rt: &impl Print) -> io::Result<()> {
     let cell = Cell { row: 0, column: 1 };
-    lookup(rt, b"P at row 0, column 1", 2, picture, cell)?;
+    lookup(rt, b"P at row 0, column 1", 2, &P, cell)?;
     let cell = Cell { row: 0, column: 2 };
-    lookup(rt, b"P at row 0, column 2", 2, picture, cell)?;
+    lookup(rt, b"P at row 0, column 2", 2, &P, cell)?;
     let cell = Cell { row: 1, column: 3 };
-    lookup(rt, b"P at row 1, column 3", 2, picture, cell)?;
+    lookup(rt, b"P at row 1, column 3", 2, &P, cell)?;
     let cell = Cell { row: -1, column: 0 };
-    lookup(rt, b"P at row -1, column 0", 2, picture, cell)?;
+    lookup(rt, b"P at row -1, column 0", 2, &P, cell)?;
     let cell = Cell { row: 0, column: 4 };
-    lookup(rt, b"P at row 0, column 4", 2, picture, cell)?;
+    lookup(rt, b"P at row 0, column 4", 2, &P, cell)?;
     let cell = Cell { row: -1, column: 0 };
     lookup(rt, b"a list that stops short", 1, &[0], cell)
 }
@@ -169,14 +164,13 @@ fn addresses(rt: &impl Print) -> io::Result<()> {
 }
 
 fn main(rt: HostRuntime) -> io::Result<()> {
-    let picture = [257, 262144, 327680, 393216, 458753, 524544, 786689];
-    checks(&rt, &picture)?;
+    checks(&rt)?;
     more_checks(&rt)?;
     sizes(&rt)?;
-    lookups(&rt, &picture)?;
+    lookups(&rt)?;
     neighbours(&rt)?;
     edges(&rt)?;
     addresses(&rt)?;
     lists(&rt)?;
-    rasters(&rt, &picture)
+    rasters(&rt)
 }

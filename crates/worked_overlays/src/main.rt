@@ -1,6 +1,7 @@
 // The worked cases of overlay and window, run. The file `stdout` beside this folder holds what the paper says that they answer.
 #![tactic(auto)]
 
+use lines::P;
 use oboeridge::{Frame, Operation, Shift, Window};
 use std::io;
 
@@ -12,25 +13,19 @@ fn on_p(
     shift: Shift,
     lent: &mut [u64],
 ) -> io::Result<()> {
-    lines::say(rt, b"S on P, ")?;
-    lines::say(rt, what)?;
-    let p = [257u64, 262144, 327680, 393216, 458753, 524544, 786689];
+    lines::asked(rt, b"S on P", what)?;
     let s = [257u64];
     lines::answer(
         rt,
-        oboeridge::overlay(operation, 2, &p, 1, &s, shift, Frame::OfFirst, lent),
+        oboeridge::overlay(operation, 2, &P, 1, &s, shift, Frame::OfFirst, lent),
     )?;
-    lines::say(rt, b"  left:")?;
-    lines::words(rt, lent)
+    lines::left(rt, lent)
 }
 
 fn window(rt: &impl Print, what: &[u8], window: Window, lent: &mut [u64]) -> io::Result<()> {
-    lines::say(rt, b"window of P, ")?;
-    lines::say(rt, what)?;
-    let p = [257u64, 262144, 327680, 393216, 458753, 524544, 786689];
-    lines::answer(rt, oboeridge::window_of(2, &p, window, lent))?;
-    lines::say(rt, b"  left:")?;
-    lines::words(rt, lent)
+    lines::asked(rt, b"window of P", what)?;
+    lines::answer(rt, oboeridge::window_of(2, &P, window, lent))?;
+    lines::left(rt, lent)
 }
 
 fn overlays(rt: &impl Print) -> io::Result<()> {
@@ -119,8 +114,7 @@ fn laid<'a>(
     shift: Shift,
     window: Window,
 ) -> io::Result<()> {
-    lines::say(rt, b"on four cells, ")?;
-    lines::say(rt, what)?;
+    lines::asked(rt, b"on four cells", what)?;
     let first = [0u64, 65536, 131074, 196610];
     let mut lent = [9u64; 4];
     lines::answer(
@@ -136,19 +130,14 @@ fn laid<'a>(
             &mut lent,
         ),
     )?;
-    lines::say(rt, b"  left:")?;
-    lines::words(rt, &lent)
+    lines::left(rt, &lent)
 }
 
 // The table of the operations: WHITE and WHITE, WHITE and 3, 2 and WHITE, 2 and 3.
 fn table(rt: &impl Print) -> io::Result<()> {
     let b = [0u64, 65539, 131072, 196611];
     let at = Shift { dy: 0, dx: 0 };
-    let own = Window {
-        wy: 0,
-        wx: 0,
-        size: 1,
-    };
+    let own = seen_from(0, 0);
     laid(rt, b"intersection", Operation::Intersection, 1, &b, at, own)?;
     laid(rt, b"union", Operation::Union, 1, &b, at, own)?;
     laid(rt, b"difference", Operation::Difference, 1, &b, at, own)

@@ -13,8 +13,7 @@ fn shifted(rt: &impl Print, s: Shift) -> io::Result<()> {
 }
 
 fn placing(rt: &impl Print, what: &[u8], p: Place) -> io::Result<()> {
-    lines::say(rt, b"placing, ")?;
-    lines::say(rt, what)?;
+    lines::asked(rt, b"placing", what)?;
     match oboeridge::placing(p) {
         Ok(s) => shifted(rt, s),
         Err(r) => lines::refused(rt, r),

@@ -3,7 +3,7 @@ use Rattle.std.specs.Prelude.{◌≡◌, refl, Bool, true, false, List, [], ℕ,
 use Rattle.std.proofs.Common.{arith, lt-ltb, le-ltb, ltb-false}
 use Rattle.refusal.specs.Rules as rule
 use Rattle.refusal.specs.Answer.{gives, refuses, refuse_if}
-use Rattle.refusal.specs.Judged.{refuse_wrong}
+use Rattle.refusal.specs.Judged.{unless, refuse_wrong}
 use Rattle.refusal.specs.declared.Refusal.{Refusal}
 use Rattle.tiling.specs.Map.{limit}
 use Rattle.tiling.specs.Check.{checked}
@@ -11,7 +11,6 @@ use Rattle.shortest.specs.Outcome.{Outcome}
 use Rattle.place.specs.Placing.{far, farthest_offset}
 use Rattle.place.specs.declared.Shift.{Shift}
 use Rattle.overlays.specs.Overlay.{sizes, offsets, lists, judged}
-use Rattle.overlays.specs.Scenes.{unless}
 use Rattle.overlays.specs.declared.Window.{Window}
 
 module _ (n m w : ℕ) (x : Outcome) where
@@ -111,9 +110,9 @@ judged_right n a m b s w h =
     record { first-size = p.0; second-size = p.1; window_size = p.2; near = q.0; first_tiles = r.0; second_tiles = r.1 }
 
 -- what is refused is refused whatever comes after
-pub bad_any : (v : Result (Unit {0}) Refusal) (r : Refusal) → v ≡ Err r → (x y : Outcome) → unless v x ≡ unless v y
+pub bad_any : {A : Type 0} (v : Result A Refusal) (r : Refusal) → v ≡ Err r → (x y : Outcome) → unless v x ≡ unless v y
 bad_any v r e x y = rw e
 
 -- what nothing refuses passes
-pub fine_passes : (v : Result (Unit {0}) Refusal) → v ≡ Ok tt → (x : Outcome) → unless v x ≡ x
-fine_passes v e x = rw e
+pub fine_passes : {A : Type 0} (v : Result A Refusal) (u : A) → v ≡ Ok u → (x : Outcome) → unless v x ≡ x
+fine_passes v u e x = rw e

@@ -9,6 +9,7 @@ use Rattle.tiling.specs.Map.{limit, colour_in}
 use Rattle.tiling.specs.Leaf.{colours}
 use Rattle.tiling.specs.Laws.Check.{tiles_formed}
 use Rattle.refusal.specs.Answer.{gives, refuses}
+use Rattle.refusal.specs.Judged.{unless}
 use Rattle.refusal.specs.Read.{rule_of, number_of}
 use Rattle.refusal.specs.declared.Refusal.{Refusal}
 use Rattle.shortest.specs.Shortest.{shortest}
@@ -22,15 +23,14 @@ use Rattle.probe.specs.Laws.Biased.{near, near_step, colour_biased, biased_step,
 use Rattle.place.specs.Placing.{farthest_offset}
 use Rattle.place.specs.declared.Shift.{Shift}
 use Rattle.painter.specs.Operation.{combine}
-use Rattle.painter.specs.Scene.{cell_of, picture}
+use Rattle.painter.specs.Scene.{Scene, cell_of, picture}
 use Rattle.painter.specs.Painting.{Paints}
 use Rattle.painter.specs.declared.operations.Operation.{Operation}
 use Rattle.overlays.specs.Overlay.{window_of, overlay_cell, by_code, judged, overlaid}
 use Rattle.overlays.specs.declared.Frame.{Frame}
-use Rattle.overlays.specs.Scenes.{unless, scene_of}
+use Rattle.overlays.specs.Scenes.{scene_of}
 use Rattle.overlays.specs.Laws.Checks.{Near, Right, judged_right, fine_passes}
 use Rattle.overlays.specs.declared.Window.{Window}
-use Rattle.painter.specs.declared.scene.Scene.{Scene}
 
 -- ---- numbers that are near, as the code holds them
 pub near_back : (z : ℤ) → nat_abs z ≤ farthest_offset → to_z w64 (of_z w64 z) ≡ z
@@ -94,15 +94,15 @@ module _ (o : Operation) (n : ℕ) (a : List ℕ) (m : ℕ) (b : List ℕ) (s : 
       (picture (scene_of o n m s w) a b) (coloured (scene_of o n m s w) a b) (λ j l. pictures j)
 
 -- ---- what the whole call comes to
-module _ (o : Operation) (n : ℕ) (a : List ℕ) (m : ℕ) (b : List ℕ) (s : Shift) (w : Window) (v : Result (Unit {0}) Refusal) (e : (x : Outcome) → unless v x ≡ judged n a m b s w x) where
+module _ {A : Type 0} (o : Operation) (n : ℕ) (a : List ℕ) (m : ℕ) (b : List ℕ) (s : Shift) (w : Window) (v : Result A Refusal) (e : (x : Outcome) → unless v x ≡ judged n a m b s w x) where
   -- a refusal
   pub judged_bad : (r : Refusal) → v ≡ Err r → (x : Outcome) → judged n a m b s w x ≡ refuses (rule_of r) (number_of r)
-  judged_bad r f x = sym (e x) ∙ ap (λ (z : Result (Unit {0}) Refusal). unless z x) f
+  judged_bad r f x = sym (e x) ∙ ap (λ (z : Result A Refusal). unless z x) f
 
   -- all is right
-  module _ (f : v ≡ Ok tt) where
+  module _ (u : A) (f : v ≡ Ok u) where
     pub judged_fine : (x : Outcome) → judged n a m b s w x ≡ x
-    judged_fine x = sym (e x) ∙ fine_passes v f x
+    judged_fine x = sym (e x) ∙ fine_passes v u f x
 
     pub right : Right n a m b s w
     right = judged_right n a m b s w (sym (judged_fine (gives [])))

@@ -22,9 +22,8 @@ use Rattle.shortest.specs.Laws.Flat.{Flat, flat_first}
 use Rattle.shortest.proofs.Flat.{flat_uniform}
 use Rattle.shortest.specs.Laws.Part.{part_one}
 use Rattle.shortest.proofs.Written.{flat_inner}
-use Rattle.painter.specs.Scene.{cell_of, picture, Knows}
+use Rattle.painter.specs.Scene.{Scene, cell_of, picture, Knows}
 use Rattle.painter.specs.Laws.Table.{either_lt, combine-lt}
-use Rattle.painter.specs.declared.scene.Scene.{Scene}
 
 -- ---- colours
 about_lt : (n : ℕ) (l : List ℕ) (row column : ℕ) → cell_about n l row column < colours

@@ -7,8 +7,7 @@ use Rattle.probe.specs.declared.seen.Seen.TheVariants.{One, Mixed}
 use Rattle.probe.specs.Biased.{cell_about}
 use Rattle.probe.specs.Laws.About.{tells_holds}
 use Rattle.painter.specs.Known.{Agrees, Open, Joint}
-use Rattle.painter.specs.Scene.{cell_of}
-use Rattle.painter.specs.declared.scene.Scene.{Scene}
+use Rattle.painter.specs.Scene.{Scene, cell_of}
 
 -- a map's colour at a cell of the square agrees with what is known
 agrees : (g : ℕ → ℕ → ℕ) (row column level : ℕ) (k : Seen) → Holds g row column level k → (i j : ℕ) → i < 2 ^ level → j < 2 ^ level

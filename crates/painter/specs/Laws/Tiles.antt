@@ -9,9 +9,8 @@ use Rattle.tiles.specs.Listing.{spots}
 use Rattle.tiles.specs.Listing as listing
 use Rattle.tiles.specs.Laws.Codes.{block_cell}
 use Rattle.painter.specs.Operation.{combine}
-use Rattle.painter.specs.Scene.{cell_of, picture}
+use Rattle.painter.specs.Scene.{Scene, cell_of, picture}
 use Rattle.painter.specs.Tiled.{Combined, Tiled}
-use Rattle.painter.specs.declared.scene.Scene.{Scene}
 use Rattle.std.proofs.lemmas.Bool.{false≢true}
 use Rattle.tiling.specs.Laws.Tests.{and_both, or_either}
 use Rattle.probe.specs.declared.seen.Seen.{Seen}

@@ -38,27 +38,16 @@ module _ (v : View) (b : Block) (level_is : b.level ≡ 4) (cells : List ℕ) (t
   pub same : Same (spots cells b.code) (picture_in v) 4 b.code
   same = block_same (scene_of v) (first_of v) (second_of v) b.code b.row b.column cells tile_block t
 
-  -- what is counted and written of the tile, as a block of level L at the code k, is that of the block
-  module _ (k L : ℕ) (ek : k ≡ b.code) (eL : L ≡ 4) where
-    pub tile_part : (r : ℕ) → r ≡ part (spots cells b.code) L k → r ≡ part (picture_in v) b.level b.code
-    tile_part r h = rw (ek, eL) at h ∙ part_same (spots cells b.code) (picture_in v) 4 b.code same ∙ ap (λ (n : ℕ). part (picture_in v) n b.code) (sym level_is)
+-- what is counted and written of a picture that is the same over a block of a tile's level, as a block of level L at the code k
+module _ (v : View) (b : Block) (level_is : b.level ≡ 4) (f : ℕ → ℕ) (s : Same f (picture_in v) 4 b.code) (k L : ℕ) (ek : k ≡ b.code) (eL : L ≡ 4) where
+  pub tile_part : (r : ℕ) → r ≡ part f L k → r ≡ part (picture_in v) b.level b.code
+  tile_part r h = rw (ek, eL) at h ∙ part_same f (picture_in v) 4 b.code s ∙ ap (λ (n : ℕ). part (picture_in v) n b.code) (sym level_is)
 
-    pub tile_placed : (o : List ℕ) (at : ℕ) → Placed (picture_in v) o at b.level b.code → Placed (spots cells b.code) o at L k
-    tile_placed o at h = rw (ek, eL) (placed_same (spots cells b.code) (picture_in v) 4 b.code same o at (subst (λ (n : ℕ). Placed (picture_in v) o at n b.code) level_is h))
+  pub tile_placed : (o : List ℕ) (at : ℕ) → Placed (picture_in v) o at b.level b.code → Placed f o at L k
+  tile_placed o at h = rw (ek, eL) (placed_same f (picture_in v) 4 b.code s o at (subst (λ (n : ℕ). Placed (picture_in v) o at n b.code) level_is h))
 
-    pub tile_wrote : (o o' : List ℕ) (at : ℕ) → o' ≡ sets o at (inner (spots cells b.code) L k) → o' ≡ sets o at (inner (picture_in v) b.level b.code)
-    tile_wrote o o' at h =
-        rw (ek, eL) at h
-        ∙ ap (λ (l : List ℕ). sets o at l) (inner-same (spots cells b.code) (picture_in v) 4 b.code same)
-        ∙ ap (λ (n : ℕ). sets o at (inner (picture_in v) n b.code)) (sym level_is)
-
--- a whole window of size w, as a block of level L at the code k, in a view that shows the picture of a scene
-module _ (v : View) (f : ℕ → ℕ) (e : picture_in v ≡ f) (w k L : ℕ) (ek : k ≡ 0) (eL : L ≡ w) where
-  pub whole_part : (r : ℕ) → r ≡ part (picture_in v) L k → r ≡ part f w 0
-  whole_part r h = rw (e, ek, eL) at h
-
-  pub whole_placed : (o : List ℕ) → Placed f o 0 w 0 → Placed (picture_in v) o 0 L k
-  whole_placed o h = rw (e, ek, eL) h
-
-  pub whole_wrote : (o o' : List ℕ) → o' ≡ sets o 0 (inner (picture_in v) L k) → o' ≡ sets o 0 (inner f w 0)
-  whole_wrote o o' h = rw (e, ek, eL) at h
+  pub tile_wrote : (o o' : List ℕ) (at : ℕ) → o' ≡ sets o at (inner f L k) → o' ≡ sets o at (inner (picture_in v) b.level b.code)
+  tile_wrote o o' at h =
+      rw (ek, eL) at h
+      ∙ ap (λ (l : List ℕ). sets o at l) (inner-same f (picture_in v) 4 b.code s)
+      ∙ ap (λ (n : ℕ). sets o at (inner (picture_in v) n b.code)) (sym level_is)

@@ -13,7 +13,7 @@ use Rattle.printing.specs.Lines.{lines, printed, printed_of}
 use Rattle.pbm.specs.Laws.Exactly.{is_read}
 
 -- a cell is of colour 0 or 1
-cell_colour : {t l : List ℕ} → Cells t l → (i : ℕ) → get_or l i 0 < colours
+pub cell_colour : {t l : List ℕ} → Cells t l → (i : ℕ) → get_or l i 0 < colours
 cell_colour Cells.none i = omega arith
 cell_colour (Cells.space e r) i = cell_colour r i
 cell_colour (Cells.cell {b = b} e r) zero =

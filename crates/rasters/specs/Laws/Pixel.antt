@@ -11,11 +11,7 @@ use Rattle.morton.specs.Laws.Block.{block_level, quarters}
 use Rattle.morton.specs.declared.block.Block.{Block}
 use Rattle.tiling.specs.Leaf.{colours}
 use Rattle.shortest.specs.Part.{part}
-use Rattle.shortest.specs.Walk.{Quarter, Divisible}
-use Rattle.shortest.specs.Written.{inner, Placed}
 use Rattle.shortest.proofs.Parts.{part_cell}
-use Rattle.shortest.proofs.Written.{cell_inner}
-use Rattle.std.proofs.lemmas.List.Edits.{sets}
 use Rattle.rasters.specs.Raster.{pixel}
 use Rattle.rasters.specs.Listing.{Pixel, Inside}
 
@@ -69,21 +65,9 @@ quarter_inside n k y x level i j k' y' x' level' p hi hj q c =
     up (suc (suc i)) h l = absurd (omega arith)
 
 -- its cells, one by one: those of a block of four
-module _ (n : ℕ) (cells : List ℕ) (b : Block) (l : b.level ≡ 1) (c : Inside n b.row b.column b.level) where
+module _ (b : Block) (l : b.level ≡ 1) where
   cells_of : Quarters b.code b.row b.column 0 1 1
   cells_of = quarters b.code b.row b.column 1 1 1 (omega arith) refl refl (subst (λ (L : ℕ). IsBlock b.code b.row b.column L) l b.is)
-
-  bounds : (b.row + 1 < 2 ^ n) × (b.column + 1 < 2 ^ n)
-  bounds = let e : 2 ^ b.level ≡ 2 = ap (λ (L : ℕ). 2 ^ L) l in omega (arith, c.rows, c.columns)
-
-  pub four_pixels : Pixel n b.row b.column × Pixel n b.row (b.column + 1) × Pixel n (b.row + 1) b.column × Pixel n (b.row + 1) (b.column + 1)
-  four_pixels =
-      let z = bounds in (
-        record { row = omega (arith, z); column = omega (arith, z) },
-        record { row = omega (arith, z); column = z.1 },
-        record { row = z.0; column = omega (arith, z) },
-        record { row = z.0; column = z.1 },
-      )
 
   pub four_codes : (code b.row b.column ≡ b.code) × (code b.row (b.column + 1) ≡ b.code + 1) × (code (b.row + 1) b.column ≡ b.code + 2) × (code (b.row + 1) (b.column + 1) ≡ b.code + 3)
   four_codes = let q = cells_of in (sym q.nw.is, sym q.ne.is, sym q.sw.is, sym q.se.is)
@@ -92,29 +76,7 @@ module _ (n : ℕ) (cells : List ℕ) (b : Block) (l : b.level ≡ 1) (c : Insid
   pub four_fit : b.code + 4 ≤ 4 ^ highest
   four_fit = omega (arith, cells_of.codes)
 
--- a block's quarter, as the walk down a picture has it
-pub quarter_of : {k y x L i j k' y' x' l : ℕ} → Quartered k y x (L - 1) i j k' y' x' l → Quarter k L (2 * i + j) k' l
-quarter_of q = record { code = q.code; level = q.level }
-
--- a block that is no single cell
-pub divisible : (n : ℕ) (cells : List ℕ) → ((j : ℕ) → get_or cells j 0 < colours) → (b : Block) → 0 < b.level → Divisible (pixel n cells) b.level b.code
-divisible n cells bytes b p = record { coloured = coloured n cells bytes; some = p; low = (block_fits b).0; codes = (block_fits b).1 }
-
 -- a single cell
 module _ (n : ℕ) (cells : List ℕ) (b : Block) (l : b.level ≡ 0) where
   pub single_part : pixel n cells (code b.row b.column) ≡ part (pixel n cells) b.level b.code
   single_part = ap (pixel n cells) (sym b.is.is) ∙ rw l (sym (part_cell (pixel n cells) b.code))
-
-  pub single_inner : (o : List ℕ) (at : ℕ) → o ≡ sets o at (inner (pixel n cells) b.level b.code)
-  single_inner o at = rw l (cell_inner (pixel n cells) b.code o at)
-
--- the whole square, as a block of level L at the code k
-module _ (n : ℕ) (f : ℕ → ℕ) (k L : ℕ) (ek : k ≡ 0) (eL : L ≡ n) where
-  pub whole_part : (r : ℕ) → r ≡ part f L k → r ≡ part f n 0
-  whole_part r h = rw (ek, eL) at h
-
-  pub whole_wrote : (o o' : List ℕ) → o' ≡ sets o 0 (inner f L k) → o' ≡ sets o 0 (inner f n 0)
-  whole_wrote o o' h = rw (ek, eL) at h
-
-  pub whole_put : (o : List ℕ) → Placed f o 0 n 0 → Placed f o 0 L k
-  whole_put o h = rw (ek, eL) h

@@ -9,7 +9,7 @@ use Rattle.shortest.specs.Part.{part, is_one, size_of, joined}
 use Rattle.shortest.specs.Written.{inner, filled, settled, finished}
 use Rattle.shortest.specs.Laws.Stores.{set-sets}
 use Rattle.shortest.specs.Laws.Paint.{shortest_one}
-use Rattle.shortest.specs.Laws.Part.{part_one, part_many}
+use Rattle.shortest.specs.Laws.Part.{part_one, part_many, one_uniform}
 
 pub filled_one : (out : List ℕ) (at p k L : ℕ) → p < colours → filled out at p k L ≡ set out at (leaf k L p)
 unfolding filled
@@ -52,6 +52,10 @@ inner_one f L k h = rw h
 pub inner_many : (f : ℕ → ℕ) (L k : ℕ) → uniform f L k ≡ false → inner f L k ≡ shortest f L k
 unfolding inner
 inner_many f L k h = rw h
+
+-- a block that comes to a colour writes nothing by itself
+pub colour_inner : (f : ℕ → ℕ) → ((j : ℕ) → f j < colours) → (c L k : ℕ) → c < colours → c ≡ part f L k → (o : List ℕ) (at : ℕ) → o ≡ sets o at (inner f L k)
+colour_inner f coloured c L k h e o at = rw (inner_one f L k (one_uniform f coloured L k (omega arith)))
 
 -- the four quarters' own writes, one after another
 abbrev pub four_inner : (ℕ → ℕ) → List ℕ → ℕ → ℕ → ℕ → ℕ → ℕ → ℕ → List ℕ

@@ -70,6 +70,10 @@ low first k level c = exponent_le level 4 (omega (arith, c.from, c.to))
 pub block_fits : (first k level : ℕ) → Counts first k level → (level ≤ highest) × (k + 4 ^ level ≤ 4 ^ highest)
 block_fits first k level c = (omega (arith, low first k level c), omega (arith, c.to, c.small))
 
+-- and so do four cells
+pub four_fit : (first k level : ℕ) → Counts first k level → level ≡ 1 → k + 4 ≤ 4 ^ highest
+four_fit first k level c one = omega (arith, c.to, c.small, ap (λ (n : ℕ). 4 ^ n) one)
+
 -- its first cell is the tile's
 pub first_in : (first k level : ℕ) → Counts first k level → k < first + 256
 first_in first k level c = omega (arith, c.to, pow_pos level)

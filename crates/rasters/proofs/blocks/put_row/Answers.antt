@@ -6,4 +6,4 @@ use Rattle.rasters.proofs.blocks.put_row.Goals as goal
 pub bounds-tile-at : goal.bounds-tile-at
 bounds-tile-at c =
     let i = c.args.first + c.loop-i.i in
-    omega (arith, c.requires.1.each i (omega (arith, c.requires.2)), order_small i (omega (arith, c.requires.2)), c.requires.0)
+    omega (arith, c.requires.0.each i (omega (arith, c.requires.1)), order_small i (omega (arith, c.requires.1)))

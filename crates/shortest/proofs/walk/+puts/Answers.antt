@@ -6,8 +6,15 @@ use Rattle.std.proofs.Common.{rules, refl, ap, arith, ℕ, ◌+◌, ◌-◌}
 use Rattle.shortest.specs.Part.{size_of}
 use Rattle.shortest.specs.Coded.{number_of}
 use Rattle.shortest.specs.Laws.Quarters.{Ready}
+use Rattle.shortest.specs.Laws.Written.{colour_inner}
 use Rattle.shortest.proofs.Steps.{Done, place_nw, place_ne, place_sw, place_se, fits_ne, fits_sw, fits_se, all_done, all_part, all_wrote, finishes_same, finished_same}
 use Rattle.shortest.proofs.walk.+puts.Goals as goal
+
+pub put-returns-in-One-clause-left : goal.put-returns-in-One-clause-left
+put-returns-in-One-clause-left g t c =
+    let a = c.args in
+    let m = g.P.Picture in
+    colour_inner (m.colour_at a.picture.now) (g.met.P.Picture.coloured a.picture.now a.block c.requires.0) (c.in-One.colour) (m.level_of a.block) (m.code_of a.block) (omega arith) (search rules) a.out.now a.at
 
 -- what the walk leaves of each quarter
 module _ (g : Over) (t : ℕ) where

@@ -4,4 +4,4 @@ use Rattle.tiles.specs.Laws.Tiles.{four_tile}
 use Rattle.tiles.proofs.decoding.decode_four.Goals as goal
 
 pub returns : goal.returns
-returns c = four_tile (cell_about c.args.map.now.n c.args.map.now.list.now) c.args.row c.args.column c.block.ensures c.block-2.ensures c.block-3.ensures c.block-4.ensures
+returns c = four_tile (cell_about c.args.chart.now.map.n c.args.chart.now.map.list.now) c.args.row c.args.column c.block.ensures c.block-2.ensures c.block-3.ensures c.block-4.ensures

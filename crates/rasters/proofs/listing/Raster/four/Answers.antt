@@ -10,7 +10,7 @@ returns c =
     let r = c.args.self.now in
     let p = c.requires in
     let f = pixel r.n r.cells.now in
-    let e = four_codes r.n r.cells.now c.args.block p.1 p.0 in
+    let e = four_codes c.args.block p.0 in
     record {
       nw = c.cell.ensures ∙ ap f e.0;
       ne = c.cell-2.ensures ∙ ap f e.1;
