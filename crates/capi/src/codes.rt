@@ -9,7 +9,7 @@ use refusal::Refusal;
 // The answer to a number that names nothing, and to a place for a pair that is too short: C has no Option.
 pub const UNNAMED: u64 = 18446744073709551615;
 
-// rule × 2^32 + number.
+// rule × 2^32 + number. No `From`: a refusal is another crate's, and so is a number, and which number it answers is C's alone.
 pub fn refused(r: Refusal) -> u64
     requires { number_of r < 2 ^ 32 }
     ensures { result ≡ rule_of r * 2 ^ 32 + number_of r }

@@ -130,6 +130,7 @@ fn overlay(
     codes::number(oboeridge::overlay(o, n, first, m, second, shift, frame, out))
 }
 
+// As many parameters as C hands over one by one, here and in `oboe_overlay_own`: it has no struct of ours.
 #[unsafe(no_mangle)]
 pub extern "C" fn oboe_overlay(
     operation: u64,

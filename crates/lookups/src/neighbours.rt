@@ -46,7 +46,7 @@ fn stepped(v: u64, ways: i64, side: u64) -> i64
     v as i64 + ways * side as i64
 }
 
-// Whether a code and a level are those of a block of a square of size n.
+// Whether a code and a level are those of a block of a square of size n, a number for the reason given at `tiling::LIMIT`.
 fn is_block(n: u64, code: u64, level: u64) -> bool
     requires { n ≤ highest }
     ensures { result ≡ is_block n code level }

@@ -1,5 +1,5 @@
 -- A block of level L: a square of side 2 ^ L, whose code is that of its upper left cell, and its quarters.
-use Rattle.std.specs.Prelude.{◌≡◌, ℕ, ◌+◌, ◌*◌, ◌%◌, ◌^◌, ◌≤◌}
+use Rattle.std.specs.Prelude.{◌≡◌, ℕ, ◌+◌, ◌*◌, ◌-◌, ◌%◌, ◌^◌, ◌≤◌}
 use Rattle.morton.specs.Code.{code}
 use Rattle.morton.specs.Power.{highest}
 
@@ -28,3 +28,8 @@ pub record Quartered (k y x L i j k' y' x' L' : ℕ) : Type 0 where
   pub row : y' ≡ y + i * 2 ^ L
   pub column : x' ≡ x + j * 2 ^ L
   pub level : L' ≡ L
+
+-- (k', L') are the code and the level of the quarter i of the block of level L at the code k
+pub record Quarter (k L i k' L' : ℕ) : Type 0 where
+  pub code : k' ≡ k + i * 4 ^ (L - 1)
+  pub level : L' ≡ L - 1

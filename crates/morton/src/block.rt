@@ -1,6 +1,6 @@
 // Blocks, and their quarters.
-ghost use Rattle.std.specs.Prelude.{◌≡◌, ◌-◌, ◌<◌, ◌≤◌};
-ghost use Rattle.morton.specs.Block.{Block as IsBlock, Quartered};
+ghost use Rattle.std.specs.Prelude.{◌≡◌, ◌+◌, ◌-◌, ◌^◌, ◌<◌, ◌≤◌};
+ghost use Rattle.morton.specs.Block.{Block as IsBlock, Quarter, Quartered};
 ghost use Rattle.morton.specs.Power.{highest};
 
 // A block of the level: its code, and the row and the column of its upper left cell.
@@ -13,6 +13,13 @@ pub struct Block {
     pub ghost is: { IsBlock code row column level },
 }
 
+// A block by its code and its level, where its row and column are not needed.
+#[derive(Clone, Copy, Debug, PartialEq, Eq)]
+pub struct Spot {
+    pub code: u64,
+    pub level: u64,
+}
+
 // One thing for each quarter of a block, in the order of their codes.
 #[derive(Clone, Copy, Debug, PartialEq, Eq)]
 pub struct Four<T> {
@@ -20,6 +27,49 @@ pub struct Four<T> {
     pub ne: T,
     pub sw: T,
     pub se: T,
+}
+
+impl Spot {
+    // The quarters of a block that is no single cell.
+    pub fn quarters(self) -> Four<Spot>
+        requires { (0 < self.level) × (self.code + 4 ^ self.level ≤ 4 ^ highest) }
+        ensures nw { Quarter self.code self.level 0 result.nw.code result.nw.level }
+        ensures ne { Quarter self.code self.level 1 result.ne.code result.ne.level }
+        ensures sw { Quarter self.code self.level 2 result.sw.code result.sw.level }
+        ensures se { Quarter self.code self.level 3 result.se.code result.se.level }
+    {
+        let (code, level) = (self.code, self.level - 1);
+        let area = super::area(level);
+        Four {
+            nw: Spot { code, level },
+            ne: Spot {
+                code: code + area,
+                level,
+            },
+            sw: Spot {
+                code: code + 2 * area,
+                level,
+            },
+            se: Spot {
+                code: code + 3 * area,
+                level,
+            },
+        }
+    }
+
+    // The block at the row and the column.
+    fn at(self, row: u64, column: u64) -> Block
+        requires { IsBlock self.code row column self.level }
+        ensures { (result.code ≡ self.code) × (result.row ≡ row) × (result.column ≡ column) × (result.level ≡ self.level) }
+    {
+        let Spot { code, level } = self;
+        Block {
+            code,
+            row,
+            column,
+            level,
+        }
+    }
 }
 
 impl Block {
@@ -36,6 +86,16 @@ impl Block {
         }
     }
 
+    // Its code and its level.
+    pub fn spot(self) -> Spot
+        ensures { (result.code ≡ self.code) × (result.level ≡ self.level) }
+    {
+        Spot {
+            code: self.code,
+            level: self.level,
+        }
+    }
+
     // The quarters of a block that is no single cell.
     pub fn quarters(self) -> Four<Block>
         requires { 0 < self.level }
@@ -44,34 +104,15 @@ impl Block {
         ensures sw { Quartered self.code self.row self.column (self.level - 1) 1 0 result.sw.code result.sw.row result.sw.column result.sw.level }
         ensures se { Quartered self.code self.row self.column (self.level - 1) 1 1 result.se.code result.se.row result.se.column result.se.level }
     {
-        let level = self.level - 1;
-        let (side, area) = (super::side(level), super::area(level));
-        let (code, row, column) = (self.code, self.row, self.column);
+        let spot = self.spot().quarters();
+        let (row, column) = (self.row, self.column);
+        let side = super::side(spot.nw.level);
         let (south, east) = (row + side, column + side);
-        let nw = Block {
-            code,
-            row,
-            column,
-            level,
-        };
-        let ne = Block {
-            code: code + area,
-            row,
-            column: east,
-            level,
-        };
-        let sw = Block {
-            code: code + 2 * area,
-            row: south,
-            column,
-            level,
-        };
-        let se = Block {
-            code: code + 3 * area,
-            row: south,
-            column: east,
-            level,
-        };
-        Four { nw, ne, sw, se }
+        Four {
+            nw: spot.nw.at(row, column),
+            ne: spot.ne.at(row, east),
+            sw: spot.sw.at(south, column),
+            se: spot.se.at(south, east),
+        }
     }
 }

@@ -12,7 +12,7 @@ mod block;
 mod spread;
 mod table;
 
-pub use block::{Block, Four};
+pub use block::{Block, Four, Spot};
 pub use spread::Spread;
 
 // The bits at the even places of a number of so many digits in base 4, brought together.

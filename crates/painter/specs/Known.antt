@@ -1,5 +1,5 @@
 -- What follows for the result from what is known of the two maps.
-use Rattle.std.specs.Prelude.{◌≡◌, ℕ}
+use Rattle.std.specs.Prelude.{◌≡◌, ℕ, Option, Some, None}
 use Rattle.probe.specs.declared.seen.Seen.{Seen}
 use Rattle.probe.specs.declared.seen.Seen.TheVariants.{One, Mixed}
 use Rattle.painter.specs.declared.operations.Operation.{Operation}
@@ -20,3 +20,8 @@ Open (Mixed g) s = Unit {0}
 abbrev pub Joint : Operation → Seen → Seen → Seen → Type 0
 Joint operation a b (One c) = (p q : ℕ) → Agrees a p → Agrees b q → combine operation p q ≡ c
 Joint operation a b (Mixed h) = Open a b
+
+-- a colour that is told, or nothing, as what is seen
+abbrev pub told : Option ℕ → Seen
+told (Some c) = One c
+told None = Mixed 0

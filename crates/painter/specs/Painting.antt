@@ -1,4 +1,5 @@
--- What counting and writing a scene's list ask.
+-- What counting and writing a scene's list ask. In the code the types `View` and `Glance` say it; the records stay beside them, since the
+-- theorems `paints` and `all_paints` of overlays/specs/Laws/Scenes.antt say of `Paints` what the checks find.
 use Rattle.std.specs.Prelude.{List, ℕ, ◌≤◌, length}
 use Rattle.morton.specs.Power.{highest}
 use Rattle.shortest.specs.Shortest.{shortest}

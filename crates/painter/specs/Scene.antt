@@ -27,7 +27,8 @@ cell_of s a b y x = combine s.operation (cell_about s.n a (s.ay + y) (s.ax + x))
 unfoldable pub picture : Scene → List ℕ → List ℕ → ℕ → ℕ
 picture s a b k = cell_of s a b (row_of k) (column_of k)
 
--- the two lists are maps, and the window lies near them
+-- the two lists are maps, and the window lies near them: a record beside the types `Map` and `Layer`, since the theorems `paints` and `all_paints` of
+-- overlays/specs/Laws/Scenes.antt say of it what the checks find
 pub record Scened (s : Scene) (a b : List ℕ) : Type 0 where
   pub first-size : s.n ≤ highest
   pub second-size : s.m ≤ highest

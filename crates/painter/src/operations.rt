@@ -13,7 +13,7 @@ pub enum Operation {
 
 impl Operation {
     ghost use Rattle.painter.specs.Operation.{combine};
-    ghost use Rattle.painter.specs.Known.{Joint};
+    ghost use Rattle.painter.specs.Known.{Joint, told};
 
     // The colour of a cell, from the first map's and the second's. A `match` and no closure: the three are named by number in C, and this is
     // their table.
@@ -28,36 +28,36 @@ impl Operation {
     }
 
     // What is settled by the first map's colour alone.
-    fn first_alone(self, a: u8) -> Seen
-        ensures { (h : ℕ) → Joint self (Seen.One a) (Seen.Mixed h) result }
+    fn first_alone(self, a: u8) -> Option<u8>
+        ensures { (h : ℕ) → Joint self (Seen.One a) (Seen.Mixed h) (told result) }
     {
         match self {
-            Operation::Intersection => { if a == 0 { Seen::One(0) } else { Seen::Mixed(0) } }
-            Operation::Union => { if a == 0 { Seen::Mixed(0) } else { Seen::One(a) } }
-            Operation::Difference => { if a == 0 { Seen::One(0) } else { Seen::Mixed(0) } }
+            Operation::Intersection => { if a == 0 { Some(0) } else { None } }
+            Operation::Union => { if a == 0 { None } else { Some(a) } }
+            Operation::Difference => { if a == 0 { Some(0) } else { None } }
         }
     }
 
     // What is settled by the second map's colour alone: other entries, so no second use of the table above.
-    fn second_alone(self, b: u8) -> Seen
-        ensures { (h : ℕ) → Joint self (Seen.Mixed h) (Seen.One b) result }
+    fn second_alone(self, b: u8) -> Option<u8>
+        ensures { (h : ℕ) → Joint self (Seen.Mixed h) (Seen.One b) (told result) }
     {
         match self {
-            Operation::Intersection => { if b == 0 { Seen::One(0) } else { Seen::Mixed(0) } }
-            Operation::Union => Seen::Mixed(0),
-            Operation::Difference => { if b == 0 { Seen::Mixed(0) } else { Seen::One(0) } }
+            Operation::Intersection => { if b == 0 { Some(0) } else { None } }
+            Operation::Union => None,
+            Operation::Difference => { if b == 0 { None } else { Some(0) } }
         }
     }
 
     // The colour of the result, if what is known of the two maps settles it.
-    pub fn joint(self, a: Seen, b: Seen) -> Seen
-        ensures { Joint self a b result }
+    pub fn joint(self, a: Seen, b: Seen) -> Option<u8>
+        ensures { Joint self a b (told result) }
     {
         match (a, b) {
-            (Seen::One(a), Seen::One(b)) => Seen::One(self.combined(a, b)),
+            (Seen::One(a), Seen::One(b)) => Some(self.combined(a, b)),
             (Seen::One(a), Seen::Mixed(_)) => self.first_alone(a),
             (Seen::Mixed(_), Seen::One(b)) => self.second_alone(b),
-            (Seen::Mixed(_), Seen::Mixed(_)) => Seen::Mixed(0),
+            (Seen::Mixed(_), Seen::Mixed(_)) => None,
         }
     }
 }

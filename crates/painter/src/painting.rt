@@ -6,8 +6,7 @@ ghost use Rattle.shortest.specs.Coded.{number_of};
 ghost use Rattle.shortest.specs.Written.{inner, Placed};
 
 use super::scene::{Glance, View};
-use morton::Four;
-use probe::Seen;
+use morton::{Four, Spot};
 use shortest::{Look, Part, Picture};
 use tiles::Tile;
 
@@ -47,21 +46,15 @@ impl<'a> Picture for View<'a> {
 
     ghost Opens = { λ v g. (0 < g.block.level) × KnowsOver v g };
 
-    fn code(glance: Glance) -> u64
-        ensures { result ≡ glance.block.code }
+    fn spot(glance: Glance) -> Spot
+        ensures { (result.code ≡ glance.block.code) × (result.level ≡ glance.block.level) }
     {
-        glance.block.code
-    }
-
-    fn level(glance: Glance) -> u64
-        ensures { result ≡ glance.block.level }
-    {
-        glance.block.level
+        glance.block.spot()
     }
 
     fn look(&self, glance: Glance) -> Look<Glance> {
         let seen = self.shown_over(glance);
-        if let Seen::One(colour) = seen.all {
+        if let Some(colour) = seen.all {
             return Look::One(colour);
         }
         let closer = Glance {
@@ -77,13 +70,13 @@ impl<'a> Picture for View<'a> {
     fn count_small(&self, glance: Glance) -> Part {
         let mut cells = [0; 256];
         let tile = self.tile_over(glance, &mut cells);
-        shortest::count(&tile, tile.spot())
+        shortest::count(&tile, tile.whole())
     }
 
     fn put_small(&self, glance: Glance, out: &mut [u64], at: u64) -> Part {
         let mut cells = [0; 256];
         let tile = self.tile_over(glance, &mut cells);
-        shortest::put(&tile, tile.spot(), out, at)
+        shortest::put(&tile, tile.whole(), out, at)
     }
 
     fn quarters(&self, glance: Glance) -> Four<Glance> {

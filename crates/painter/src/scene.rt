@@ -38,10 +38,10 @@ impl Glance {
     }
 }
 
-// What is seen of a block: of both maps together, and what is known of each from then on.
+// What is seen of a block: the colour that both maps show together, if it is one, and what is known of each from then on.
 #[derive(Clone, Copy, Debug, PartialEq, Eq)]
 pub struct Probe {
-    pub all: Seen,
+    pub all: Option<u8>,
     pub known: Known,
 }
 
@@ -54,6 +54,7 @@ pub struct View<'a> {
 }
 
 impl<'a> View<'a> {
+    ghost use Rattle.painter.specs.Known.{told};
     ghost use Rattle.painter.specs.Windowed.{Windowed};
     ghost use Rattle.painter.specs.View.{cell_in, KnowsAt, ToldAt, KnowsOver, ToldOver, TiledOver};
     ghost use Rattle.tiles.specs.Tile.{Tile};
@@ -63,14 +64,13 @@ impl<'a> View<'a> {
     #[inline(always)]
     pub fn shown(&self, known: Known, square: Square) -> Probe
         requires { Windowed square × KnowsAt self.now known square }
-        ensures { ToldAt self.now square result.all result.known }
+        ensures { ToldAt self.now square (told result.all) result.known }
     {
         let first = self.first.ask(known.first, square);
-        let early = self.operation.joint(first, known.second);
-        if let Seen::One(_) = early {
+        if let Some(colour) = self.operation.joint(first, known.second) {
             let second = known.second;
             return Probe {
-                all: early,
+                all: Some(colour),
                 known: Known { first, second },
             };
         }
@@ -86,14 +86,9 @@ impl<'a> View<'a> {
     #[inline(always)]
     pub fn shown_over(&self, glance: Glance) -> Probe
         requires { KnowsOver self.now glance }
-        ensures { ToldOver self.now glance.block result.all result.known }
+        ensures { ToldOver self.now glance.block (told result.all) result.known }
     {
-        let square = Square {
-            row: glance.block.row,
-            column: glance.block.column,
-            level: glance.block.level,
-        };
-        self.shown(glance.known, square)
+        self.shown(glance.known, Square::from(glance.block))
     }
 
     // Whether a block is painted by a tile: it is one, and so can both maps be.

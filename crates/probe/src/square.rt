@@ -1,11 +1,12 @@
 // What a square of cells shows that lies within a map or beyond it.
-ghost use Rattle.std.specs.Prelude.{◌≡◌, true, ◌≤◌, nat_abs};
-ghost use Rattle.probe.specs.Biased.{biased, reach, cell_about};
+ghost use Rattle.std.specs.Prelude.{◌≡◌, true, ◌+◌, ◌^◌, ◌<◌, ◌≤◌, nat_abs};
+ghost use Rattle.morton.specs.Power.{highest};
+ghost use Rattle.probe.specs.Biased.{bias, biased, reach, beyondb, cell_about};
 ghost use Rattle.probe.specs.Seen.{Shows, Covers, Tells, Holds};
 ghost use Rattle.probe.specs.Asked.{cell_at, Cell, Within, Across, About};
 
 use super::seen::Seen;
-use morton::Spread;
+use morton::{Block, Spread};
 use tiling::Map;
 
 // A cell beyond a map counts as WHITE.
@@ -20,6 +21,19 @@ pub struct Square {
     pub row: u64,
     pub column: u64,
     pub level: u64,
+}
+
+// The square that a block is.
+impl From<Block> for Square {
+    ghost from_gives = { λ block square. square ≡ record { row = block.row; column = block.column; level = block.level } };
+
+    fn from(block: Block) -> Square {
+        Square {
+            row: block.row,
+            column: block.column,
+            level: block.level,
+        }
+    }
 }
 
 // A map that is looked into, and the table by which its cells are coded.
@@ -110,17 +124,29 @@ impl<'a> Chart<'a> {
         Seen::Mixed(at)
     }
 
+    // Whether a square at a biased row and column lies wholly beyond the map. Inlined, so that asking it first costs no call.
+    #[inline(always)]
+    pub fn beyond(&self, square: Square) -> bool
+        requires { (square.level ≤ highest) × (square.row < 2 ^ 21) × (square.column < 2 ^ 21) }
+        ensures { result ≡ beyondb square.row square.column (2 ^ square.level) (bias + 2 ^ self.now.map.n) }
+    {
+        let side = morton::side(square.level);
+        let end = BIAS + morton::side(self.map.n);
+        let (row, column) = (square.row, square.column);
+        (row + side <= BIAS) | (column + side <= BIAS) | (end <= row) | (end <= column)
+    }
+
     // What a square anywhere about the map shows, at a biased row and column; nothing is known of it but a hint.
     fn look_about(&self, hint: usize, square: Square) -> Seen
         requires { About square.row square.column square.level }
         ensures { Tells (cell_about self.now.map.n self.now.map.list.now) square.row square.column square.level result }
     {
+        if self.beyond(square) {
+            return Seen::One(BEYOND);
+        }
         let side = morton::side(square.level);
         let end = BIAS + morton::side(self.map.n);
         let (row, column) = (square.row, square.column);
-        if (row + side <= BIAS) | (column + side <= BIAS) | (end <= row) | (end <= column) {
-            return Seen::One(BEYOND);
-        }
         if (row < BIAS) | (column < BIAS) | (end < row + side) | (end < column + side) {
             return Seen::Mixed(hint);
         }

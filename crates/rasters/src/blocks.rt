@@ -1,9 +1,8 @@
 // The raster of a list, block by block: a block that lies in one leaf is filled at once, a tile leaf by leaf, any other by its quarters.
-ghost use Rattle.std.specs.Prelude.{◌≡◌, ◌+◌, ◌^◌, ◌≤◌, length};
+ghost use Rattle.std.specs.Prelude.{◌≡◌, ℕ, ◌^◌, ◌<◌, length, get_or};
 ghost use Rattle.probe.specs.Asked.{cell_at};
-ghost use Rattle.tiles.specs.Tile.{Stored};
 ghost use Rattle.rasters.specs.Raster.{raster_of};
-ghost use Rattle.rasters.specs.Blocks.{Square, Rows, Order, alone, row_of_tile, tile_cell};
+ghost use Rattle.rasters.specs.Blocks.{Square, Rows, Order, alone, tile_cell};
 
 use morton::{Block, Four, Spread};
 use tiling::Map;
@@ -36,19 +35,8 @@ fn square(n: u64, cells: &mut [u8], block: Block, colour: u8)
     }
 }
 
-// Stores sixteen cells of a tile, those from a place in its rows on, side by side.
-fn put_row(tile: &[u8; 256], order: &[u16; 256], first: usize, cells: &mut [u8], place: usize)
-    requires { Order order.now × (first + 16 ≤ 256) × (place + 16 ≤ length cells.old) }
-    ensures { Stored cells.old place (place + 16) (row_of_tile tile.now order.now first place) cells.new }
-{
-    // the cells before i are stored
-    for i in 0..16 {
-        let at = order[first + i] as usize;
-        cells[place + i] = tile[at];
-    }
-}
-
-// A map that is written out, and the order of a tile's cells, which is made once.
+// A map that is written out, and the order of a tile's cells, which is made once. The raster's memory is no field beside them: it is the
+// caller's and goes down a recursion, and each contract, which names `cells` itself, would speak of it through the struct's borrow.
 #[derive(Clone, Copy, Debug, PartialEq, Eq)]
 struct Filler<'a> {
     map: Map<'a>,
@@ -65,8 +53,10 @@ impl<'a> Filler<'a> {
         let width = morton::side(self.map.n);
         // the rows before it are stored
         for row in 0..16 {
-            let place = (block.row + row) * width + block.column;
-            put_row(tile, &self.order, 16 * row as usize, cells, place as usize);
+            let place = ((block.row + row) * width + block.column) as usize;
+            let first = 16 * row as usize;
+            let codes = &self.order[first..first + 16];
+            tiles::gather(codes, tile, &mut cells[place..place + 16]);
         }
     }
 

@@ -1,5 +1,5 @@
 -- Four cells of a picture f, the first of them at the code k, as the quarters of their block.
-use Rattle.std.specs.Prelude.{◌≡◌, List, ℕ, ◌+◌, ◌^◌, ◌<◌, ◌≤◌}
+use Rattle.std.specs.Prelude.{◌≡◌, List, ℕ, ◌+◌, ◌-◌, ◌^◌, ◌<◌, ◌≤◌}
 use Rattle.std.proofs.Common.{refl, sym, ◌∙◌, arith}
 use Rattle.morton.specs.Power.{highest}
 use Rattle.tiling.specs.Leaf.{colours}
@@ -12,7 +12,7 @@ use Rattle.shortest.proofs.Quarters.{four_counted, ready}
 use Rattle.shortest.proofs.Written.{cell_inner}
 
 -- a single cell writes nothing by itself
-cell_wrote : (f : ℕ → ℕ) (k : ℕ) (o : List ℕ) (at p : ℕ) → p ≡ f k → Wrote f 0 k o o at p (size_of p)
+pub cell_wrote : (f : ℕ → ℕ) (k : ℕ) (o : List ℕ) (at p : ℕ) → p ≡ f k → Wrote f 0 k o o at p (size_of p)
 cell_wrote f k o at p e = record { is = e ∙ sym (part_cell f k); wrote = cell_inner f k o at; kept = refl; size = refl }
 
 module _ (f : ℕ → ℕ) (coloured : (j : ℕ) → f j < colours) (k : ℕ) {p₀ p₁ p₂ p₃ : ℕ} (e₀ : p₀ ≡ f k) (e₁ : p₁ ≡ f (k + 1)) (e₂ : p₂ ≡ f (k + 2)) (e₃ : p₃ ≡ f (k + 3)) where
@@ -34,8 +34,10 @@ module _ (f : ℕ → ℕ) (coloured : (j : ℕ) → f j < colours) (k : ℕ) {p
           ready f coloured o at 0 k (rw one at h) o p₀ _ (cell_wrote f k o at p₀ e₀) o p₁ _ (cell_wrote f (k + 1) o _ p₁ e₁) o p₂ _ (cell_wrote f (k + 2) o _ p₂ e₂) o p₃ _ (cell_wrote f (k + 3) o _ p₃ e₃)
           (omega (arith, fits)) (omega arith)
 
-      pub cells_finish : Finishes o at p₀ p₁ p₂ p₃ k 0
-      cells_finish = done.finishes
+      -- with the block's level as the caller has it
+      module _ {l : ℕ} (level : l ≡ L) where
+        pub cells_finish : (0 < l) × Finishes o at p₀ p₁ p₂ p₃ k (l - 1)
+        cells_finish = rw (level, one) (omega arith, done.finishes)
 
-      pub cells_wrote : finished o at p₀ p₁ p₂ p₃ k 0 ≡ sets o at (inner f L k)
-      cells_wrote = rw one done.written
+        pub cells_wrote : finished o at p₀ p₁ p₂ p₃ k (l - 1) ≡ sets o at (inner f L k)
+        cells_wrote = rw (level, one) done.written

@@ -1,11 +1,13 @@
 -- One step of the walk down a picture f: the quarters of a block of level L at the code k.
 use Rattle.std.specs.Prelude.{◌≡◌, List, ℕ, suc, ◌+◌, ◌*◌, ◌-◌, ◌^◌, ◌≤◌, ◌<◌, length}
-use Rattle.std.proofs.Common.{refl, sym, ap, ◌∙◌, arith}
+use Rattle.std.proofs.Common.{refl, ap, ◌∙◌, arith}
 use Rattle.std.proofs.lemmas.List.Edits.{sets}
 use Rattle.morton.specs.Power.{highest}
 use Rattle.shortest.specs.Part.{part, size_of, joined}
-use Rattle.shortest.specs.Written.{inner, finished, Finishes, Placed}
-use Rattle.shortest.specs.Walk.{Quarter, Divisible}
+use Rattle.shortest.specs.Written.{inner, finished, Placed}
+use Rattle.morton.specs.Block.{Quarter}
+use Rattle.morton.specs.Laws.Block.{quarter_place}
+use Rattle.shortest.specs.Walk.{Divisible}
 use Rattle.shortest.specs.Laws.Power.{pow_four}
 use Rattle.shortest.specs.Laws.Quarters.{Wrote, Ready, four_sizes, placed-suc}
 use Rattle.shortest.proofs.Quarters.{ready, placed_nw, placed_ne, placed_sw, placed_se, small₁, small₂, small₃, four_counted}
@@ -18,13 +20,6 @@ pub record Done (f : ℕ → ℕ) (k L i c l : ℕ) (o o' : List ℕ) (at r s : 
   pub kept : length o' ≡ length o
   pub size : s ≡ size_of r
 
--- the same of equal codes and levels
-pub finishes_same : {o : List ℕ} {at r₀ r₁ r₂ r₃ k l k' l' : ℕ} → k' ≡ k → l' ≡ l → Finishes o at r₀ r₁ r₂ r₃ k l → Finishes o at r₀ r₁ r₂ r₃ k' l'
-finishes_same e d h = rw (e, d) h
-
-pub finished_same : (o : List ℕ) (at r₀ r₁ r₂ r₃ k l k' l' : ℕ) → k' ≡ k → l' ≡ l → finished o at r₀ r₁ r₂ r₃ k' l' ≡ finished o at r₀ r₁ r₂ r₃ k l
-finished_same o at r₀ r₁ r₂ r₃ k l k' l' e d = rw (e, d) refl
-
 module _ {f : ℕ → ℕ} {L k : ℕ} (z : Divisible f L k) where
   up : suc (L - 1) ≡ L
   up = omega (arith, z.some)
@@ -32,12 +27,9 @@ module _ {f : ℕ → ℕ} {L k : ℕ} (z : Divisible f L k) where
   four_codes : k + 4 * 4 ^ (L - 1) ≤ 4 ^ highest
   four_codes = omega (arith, ap (λ (x : ℕ). 4 ^ x) up, pow_four (L - 1), z.codes)
 
-  -- a quarter's level and code, and so its part
-  place : {i c l : ℕ} (t : ℕ) → Quarter k L i c l → t ≡ k + i * 4 ^ (L - 1) → (c ≡ t) × (l ≡ L - 1)
-  place t q e = (q.code ∙ sym e, q.level)
-
+  -- the part of a quarter
   its_part : {i c l r : ℕ} (t : ℕ) → Quarter k L i c l → t ≡ k + i * 4 ^ (L - 1) → r ≡ part f l c → r ≡ part f (L - 1) t
-  its_part t q e h = let p = place t q e in rw (p.0, p.1) at h
+  its_part t q e h = let p = quarter_place q e in rw (p.0, p.1) at h
 
   -- the four, counted
   module _ {c₀ l₀ r₀ c₁ l₁ r₁ c₂ l₂ r₂ c₃ l₃ r₃ : ℕ}
@@ -63,10 +55,10 @@ module _ {f : ℕ → ℕ} {L k : ℕ} (z : Divisible f L k) where
 
   -- a quarter is placed, and has been written, where its level and its code say
   placed : {i c l : ℕ} (t : ℕ) {o : List ℕ} {at : ℕ} → Quarter k L i c l → t ≡ k + i * 4 ^ (L - 1) → Placed f o at (L - 1) t → Placed f o at l c
-  placed t q e h = let p = place t q e in rw (p.0, p.1) h
+  placed t q e h = let p = quarter_place q e in rw (p.0, p.1) h
 
   done : {i c l : ℕ} (t : ℕ) {o o' : List ℕ} {at r s : ℕ} → t ≡ k + i * 4 ^ (L - 1) → Done f k L i c l o o' at r s → Wrote f (L - 1) t o o' at r s
-  done t e d = let p = place t d.quarter e in record { is = rw (p.0, p.1) at d.is; wrote = rw (p.0, p.1) at d.wrote; kept = d.kept; size = d.size }
+  done t e d = let p = quarter_place d.quarter e in record { is = rw (p.0, p.1) at d.is; wrote = rw (p.0, p.1) at d.wrote; kept = d.kept; size = d.size }
 
   -- the four, written one after another
   module _ {o : List ℕ} {at : ℕ} (h : Placed f o at L k) where

@@ -1,5 +1,5 @@
 -- What is promised of a step of the walk down a picture.
-use Rattle.std.specs.Prelude.{◌≡◌, ℕ, ◌+◌, ◌*◌, ◌-◌, ◌^◌, ◌≤◌, ◌<◌}
+use Rattle.std.specs.Prelude.{ℕ, ◌+◌, ◌^◌, ◌≤◌, ◌<◌}
 use Rattle.morton.specs.Power.{highest}
 use Rattle.tiling.specs.Leaf.{colours}
 use Rattle.shortest.specs.declared.walk.Look.{Look}
@@ -10,11 +10,6 @@ abbrev pub Sees : {B : Type 0} → Look B → (ℕ → Type 0) → (B → Type 0
 Sees (One c) P Q R = P c
 Sees (Small b) P Q R = Q b
 Sees (Closer b) P Q R = R b
-
--- the block of level l at the code c is the quarter i of the block of level L at the code k
-pub record Quarter (k L i c l : ℕ) : Type 0 where
-  pub code : c ≡ k + i * 4 ^ (L - 1)
-  pub level : l ≡ L - 1
 
 -- the block of level L at the code k of the picture f has quarters, and lies within the largest square; colours are below 256
 pub record Divisible (f : ℕ → ℕ) (L k : ℕ) : Type 0 where

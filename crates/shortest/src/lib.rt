@@ -7,13 +7,13 @@
 // Read first: specs/Shortest.antt, and specs/Demand.antt for what is proved of it; then `list`, which makes the list, and `finish`.
 #![tactic(auto)]
 
-ghost use Rattle.std.specs.Prelude.{◌≡◌, eqb, ◌+◌, ◌^◌, ◌≤◌};
+ghost use Rattle.std.specs.Prelude.{◌≡◌, eqb, ◌+◌, ◌-◌, ◌^◌, ◌<◌, ◌≤◌};
 ghost use Rattle.morton.specs.Power.{highest};
 ghost use Rattle.shortest.specs.Part.{is_one, size_of, merge, joined};
 ghost use Rattle.shortest.specs.Coded.{number_of};
 ghost use Rattle.shortest.specs.Written.{filled, settled, finished, Fills, Settles, Finishes};
 
-use morton::Four;
+use morton::{Four, Spot};
 
 mod lists;
 mod walk;
@@ -44,13 +44,11 @@ impl Part {
     fn is_one(self) -> bool
         ensures { result ≡ is_one (number_of self) }
     {
-        match self {
-            Part::Colour(_) => true,
-            Part::Leaves(_) => false,
-        }
+        matches!(self, Part::Colour(_))
     }
 
-    // Whether it is this colour.
+    // Whether it is this colour. The derived equality would say so too, but to compare enum with enum branches at every block, and made
+    // raster to list four times as slow.
     fn is_colour(self, colour: u8) -> bool
         ensures { result ≡ eqb (number_of self) colour }
     {
@@ -88,42 +86,43 @@ pub fn joined(parts: Four<Part>) -> Part
 // Stores a part that is one colour as the leaf of its block. The place goes beside the memory and not into a slice, here and below:
 // what a quarter left is overwritten if the four merge, so a place moves back.
 #[tactic(auto, unfolding(crate::specs::Part::size_of, crate::specs::Written::filled))]
-pub fn fill(out: &mut [u64], at: u64, part: Part, code: u64, level: u64)
-    requires { Fills out.old at (number_of part) code level }
-    ensures { out.new ≡ filled out.old at (number_of part) code level }
+pub fn fill(out: &mut [u64], at: u64, part: Part, block: Spot)
+    requires { Fills out.old at (number_of part) block.code block.level }
+    ensures { out.new ≡ filled out.old at (number_of part) block.code block.level }
 {
     if let Part::Colour(colour) = part {
         let i = at as usize;
-        out[i] = tiling::leaf(code, level, colour);
+        out[i] = tiling::leaf(block.code, block.level, colour);
     }
 }
 
 // Stores those of a block's quarters that are of one colour, each at its place.
-fn settle(out: &mut [u64], at: u64, parts: Four<Part>, code: u64, level: u64)
-    requires { Settles out.old at (number_of parts.nw) (number_of parts.ne) (number_of parts.sw) (number_of parts.se) code level }
-    ensures { out.new ≡ settled out.old at (number_of parts.nw) (number_of parts.ne) (number_of parts.sw) (number_of parts.se) code level }
+#[tactic(auto, using(crate::specs::Laws::Power::pow_pos))]
+fn settle(out: &mut [u64], at: u64, parts: Four<Part>, block: Spot)
+    requires { (0 < block.level) × Settles out.old at (number_of parts.nw) (number_of parts.ne) (number_of parts.sw) (number_of parts.se) block.code (block.level - 1) }
+    ensures { out.new ≡ settled out.old at (number_of parts.nw) (number_of parts.ne) (number_of parts.sw) (number_of parts.se) block.code (block.level - 1) }
 {
-    let area = morton::area(level);
+    let quarter = block.quarters();
     let ne = at + parts.nw.size();
     let sw = ne + parts.ne.size();
     let se = sw + parts.sw.size();
-    fill(out, at, parts.nw, code, level);
-    fill(out, ne, parts.ne, code + area, level);
-    fill(out, sw, parts.sw, code + 2 * area, level);
-    fill(out, se, parts.se, code + 3 * area, level);
+    fill(out, at, parts.nw, quarter.nw);
+    fill(out, ne, parts.ne, quarter.ne);
+    fill(out, sw, parts.sw, quarter.sw);
+    fill(out, se, parts.se, quarter.se);
 }
 
-// The part of a block, from its quarters', which are of the level. Unless the four merge, those of one colour are stored.
+// The part of a block, from its quarters'. Unless the four merge, those of one colour are stored.
 #[tactic(auto, using(crate::specs::Laws::Written::finished_one))]
-pub fn finish(out: &mut [u64], at: u64, parts: Four<Part>, code: u64, level: u64) -> Part
-    requires { Finishes out.old at (number_of parts.nw) (number_of parts.ne) (number_of parts.sw) (number_of parts.se) code level }
+pub fn finish(out: &mut [u64], at: u64, parts: Four<Part>, block: Spot) -> Part
+    requires { (0 < block.level) × Finishes out.old at (number_of parts.nw) (number_of parts.ne) (number_of parts.sw) (number_of parts.se) block.code (block.level - 1) }
     ensures part { number_of result ≡ joined (number_of parts.nw) (number_of parts.ne) (number_of parts.sw) (number_of parts.se) }
-    ensures left { out.new ≡ finished out.old at (number_of parts.nw) (number_of parts.ne) (number_of parts.sw) (number_of parts.se) code level }
+    ensures left { out.new ≡ finished out.old at (number_of parts.nw) (number_of parts.ne) (number_of parts.sw) (number_of parts.se) block.code (block.level - 1) }
 {
     let part = joined(parts);
     if part.is_one() {
         return part;
     }
-    settle(out, at, parts, code, level);
+    settle(out, at, parts, block);
     part
 }

@@ -23,7 +23,7 @@ pub fn write<P: Picture>(picture: &P, whole: P::Block, out: &mut [u64]) -> u64
     ensures left { out.new ≡ shortest (P.colour_at picture.now) (P.level_of whole) 0 ++ drop (length (shortest (P.colour_at picture.now) (P.level_of whole) 0)) out.old }
 {
     let part = put(picture, whole, out, 0);
-    fill(out, 0, part, 0, P::level(whole));
+    fill(out, 0, part, P::spot(whole));
     part.size()
 }
 
@@ -34,7 +34,7 @@ pub fn list<P: Picture>(picture: &P, whole: P::Block, out: &mut [u64]) -> Result
     ensures answered { answered result ≡ written (fitting (shortest (P.colour_at picture.now) (P.level_of whole) 0) (length out.old)) }
     ensures left { out.new ≡ left (fitting (shortest (P.colour_at picture.now) (P.level_of whole) 0) (length out.old)) out.old }
 {
-    if (out.len() as u64) < morton::area(P::level(whole)) {
+    if (out.len() as u64) < morton::area(P::spot(whole).level) {
         let leaves = leaves(picture, whole);
         if (out.len() as u64) < leaves {
             return Err(Refusal::NoRoom(leaves));

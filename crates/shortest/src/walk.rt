@@ -1,6 +1,8 @@
 // The walk down a picture, over a raster or over maps: by recursion over a block whose level falls by one, once to count and once to write.
+// Counting and writing are two functions and not one: writing carries a place that moves on and memory that is lent, and counting has
+// neither. One body for both would carry an empty memory through every count.
 use super::{Part, finish, joined};
-use morton::Four;
+use morton::{Four, Spot};
 
 // What is seen of a block: that it is of one colour; that it is so small that the picture makes its list at once; or that its quarters are
 // to be looked at. With the last two goes what is known from then on.
@@ -16,11 +18,12 @@ pub trait Picture {
     ghost use Rattle.std.specs.Prelude.{◌≡◌, ℕ, ◌+◌, ◌^◌, ◌<◌, ◌≤◌};
     ghost use Rattle.std.proofs.lemmas.List.Edits.{sets};
     ghost use Rattle.morton.specs.Power.{highest};
+    ghost use Rattle.morton.specs.Block.{Quarter};
     ghost use Rattle.tiling.specs.Leaf.{colours};
     ghost use Rattle.shortest.specs.Part.{part};
     ghost use Rattle.shortest.specs.Coded.{number_of};
     ghost use Rattle.shortest.specs.Written.{inner, Placed};
-    ghost use Rattle.shortest.specs.Walk.{Sees, Quarter};
+    ghost use Rattle.shortest.specs.Walk.{Sees};
 
     // A block, and whatever is known of it.
     type Block: Copy;
@@ -40,11 +43,9 @@ pub trait Picture {
 
     ghost Opens: { Self → Self.Block → Type 0 };
 
-    fn code(block: Self::Block) -> u64
-        ensures { result ≡ code_of block };
-
-    fn level(block: Self::Block) -> u64
-        ensures { result ≡ level_of block };
+    // Its code and its level.
+    fn spot(block: Self::Block) -> Spot
+        ensures { (result.code ≡ code_of block) × (result.level ≡ level_of block) };
 
     // What is seen of a block.
     fn look(&self, block: Self::Block) -> Look<Self::Block>
@@ -112,6 +113,8 @@ fn count_quarters<P: Picture>(picture: &P, block: P::Block) -> Part
 }
 
 // Writes the list of a block from `at` on, or nothing if it is of one colour; what the block comes to. Inlined for the same reason.
+// The place goes beside the memory and is no slice, as at `fill`: a quarter that merges with its brothers is overwritten, so a place
+// moves back.
 #[cycle(puts)]
 #[inline(always)]
 pub fn put<P: Picture>(picture: &P, block: P::Block, out: &mut [u64], at: u64) -> Part
@@ -142,5 +145,5 @@ fn put_quarters<P: Picture>(picture: &P, block: P::Block, out: &mut [u64], at: u
     let at3 = at2 + sw.size();
     let se = put(picture, quarter.se, out, at3);
     let parts = Four { nw, ne, sw, se };
-    finish(out, at, parts, P::code(block), P::level(block) - 1)
+    finish(out, at, parts, P::spot(block))
 }

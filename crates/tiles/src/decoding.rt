@@ -4,12 +4,12 @@ ghost use Rattle.morton.specs.Code.{code};
 ghost use Rattle.morton.specs.Power.{highest};
 ghost use Rattle.tiling.specs.Leaf.{end_of, level_of};
 ghost use Rattle.probe.specs.Biased.{cell_about};
-ghost use Rattle.tiles.specs.Tile.{Stored, Tile, Steps, plain, codes, tile_of};
+ghost use Rattle.tiles.specs.Tile.{Stored, Tile, Steps, plain, codes};
 ghost use Rattle.tiles.specs.Decoding.{Decodes, Aligned, About, last_of};
 
 use morton::Spread;
 use probe::square::{BEYOND, BIAS};
-use probe::{Chart, Seen};
+use probe::{Chart, Seen, Square};
 use tiling::Map;
 
 // The level of a tile; it has 16 cells a side, 256 in all.
@@ -48,7 +48,8 @@ fn last_of(w: u64, code: u64, from: usize) -> usize
 }
 
 // Stores the colours of the 256 codes from one on, leaf by leaf. The loop ends by the place and not by the list, so an iterator over leaves
-// would need a second test, and a proof that it does not end first.
+// would need a second test, and a proof that it does not end first. The place `from` stands beside the memory, which is no slice from there
+// on: what is promised here holds of any memory of up to 1,024 cells.
 pub fn decode(map: &Map, code: u64, hint: usize, cells: &mut [u8], from: usize)
     requires { Decodes map.now.n code from (length cells.old) }
     ensures { Stored cells.old from (from + 256) (codes map.now.list.now code from) cells.new }
@@ -67,17 +68,21 @@ pub fn decode(map: &Map, code: u64, hint: usize, cells: &mut [u8], from: usize)
 }
 
 // Stores the cells of the aligned block at a biased row and column, which may lie beyond the map.
-fn block(chart: &Chart, hint: usize, row: u64, column: u64, cells: &mut [u8], from: usize)
-    requires { Aligned chart.now.map.n row column × (from + 256 ≤ length cells.old) × (length cells.old ≤ 1024) }
-    ensures { Stored cells.old from (from + 256) (tile_of (cell_about chart.now.map.n chart.now.map.list.now) row column from) cells.new }
+fn block(chart: &Chart, hint: usize, row: u64, column: u64, cells: &mut [u8])
+    requires { Aligned chart.now.map.n row column × (length cells.old ≡ 256) }
+    ensures { Tile (cell_about chart.now.map.n chart.now.map.list.now) row column 256 cells.new }
 {
-    let end = BIAS + morton::side(chart.map.n);
-    if (row + 16 <= BIAS) | (column + 16 <= BIAS) | (end <= row) | (end <= column) {
-        store(cells, from, from + 256, BEYOND);
+    let square = Square {
+        row,
+        column,
+        level: LEVEL,
+    };
+    if chart.beyond(square) {
+        store(cells, 0, 256, BEYOND);
         return;
     }
     let code = chart.table.code_of(row - BIAS, column - BIAS);
-    decode(&chart.map, code, hint, cells, from);
+    decode(&chart.map, code, hint, cells, 0);
 }
 
 // Decodes the square of two aligned blocks a side at a biased row and column.
@@ -85,10 +90,10 @@ fn decode_four(chart: &Chart, hint: usize, row: u64, column: u64, cells: &mut [u
     requires { Aligned chart.now.map.n row column × Aligned chart.now.map.n (row + 16) (column + 16) }
     ensures { Tile (cell_about chart.now.map.n chart.now.map.list.now) row column 1024 cells.new }
 {
-    block(chart, hint, row, column, cells, 0);
-    block(chart, hint, row, column + 16, cells, 256);
-    block(chart, hint, row + 16, column, cells, 512);
-    block(chart, hint, row + 16, column + 16, cells, 768);
+    block(chart, hint, row, column, &mut cells[..256]);
+    block(chart, hint, row, column + 16, &mut cells[256..512]);
+    block(chart, hint, row + 16, column, &mut cells[512..768]);
+    block(chart, hint, row + 16, column + 16, &mut cells[768..]);
 }
 
 // Where each cell of a tile stands that lies so many rows and columns within four aligned blocks.
@@ -107,18 +112,18 @@ pub fn steps(row: u64, column: u64, table: &Spread) -> [u16; 256]
     steps
 }
 
-// Takes the cells of a tile from those of four blocks, by their steps.
-fn gather(steps: &[u16; 256], four: &[u8; 1024], cells: &mut [u8; 256])
-    requires { (j : ℕ) → j < 256 → get_or steps.now j 0 < 1024 }
-    ensures { (j : ℕ) → j < 256 → get_or cells.new j 0 ≡ get_or four.now (get_or steps.now j 0) 0 }
+// Takes each cell from its place among others: a tile's from four blocks by the steps, a row of a raster from a tile by the codes.
+pub fn gather(places: &[u16], from: &[u8], cells: &mut [u8])
+    requires { (length places.now ≡ length cells.old) × ((j : ℕ) → j < length cells.old → get_or places.now j 0 < length from.now) }
+    ensures { (j : ℕ) → j < length cells.old → get_or cells.new j 0 ≡ get_or from.now (get_or places.now j 0) 0 }
 {
     // the cells before j are there
     for (j, cell) in cells.iter_mut().enumerate() {
-        *cell = four[steps[j] as usize];
+        *cell = from[places[j] as usize];
     }
 }
 
-// Decodes the tile anywhere about a map, at a biased row and column.
+// Decodes the tile anywhere about a map, at a biased row and column: they name it, and no `Square`, whose level would always be a tile's.
 pub fn tile(
     chart: &Chart,
     known: Seen,
@@ -140,7 +145,7 @@ pub fn tile(
     let down = row % 16;
     let right = column % 16;
     if (down == 0) & (right == 0) {
-        block(chart, hint, row, column, cells, 0);
+        block(chart, hint, row, column, cells);
         return;
     }
     let mut four = [0; 1024];

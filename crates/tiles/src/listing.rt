@@ -6,7 +6,7 @@ ghost use Rattle.shortest.specs.Coded.{number_of};
 ghost use Rattle.shortest.specs.Laws.Flat.{Flat};
 ghost use Rattle.tiles.specs.Listing.{spots, Counts};
 
-use morton::Four;
+use morton::{Four, Spot};
 use shortest::{Look, Part, Picture};
 
 // The colours of a block of 256 codes, of which this is the first.
@@ -18,16 +18,9 @@ pub struct Tile<'a> {
     pub ghost bytes: { (j : ℕ) → get_or cells.now j 0 < colours },
 }
 
-// A block of a tile.
-#[derive(Clone, Copy, Debug, PartialEq, Eq)]
-pub struct Spot {
-    pub code: u64,
-    pub level: u64,
-}
-
 impl<'a> Tile<'a> {
     // The whole of it.
-    pub fn spot(&self) -> Spot
+    pub fn whole(&self) -> Spot
         ensures { (result.code ≡ self.now.first) × (result.level ≡ 4) × Counts self.now.first result.code result.level }
     {
         Spot {
@@ -93,16 +86,10 @@ impl<'a> Picture for Tile<'a> {
 
     ghost Opens = { λ t b. (1 < b.level) × Counts t.first b.code b.level };
 
-    fn code(block: Spot) -> u64
-        ensures { result ≡ block.code }
+    fn spot(block: Spot) -> Spot
+        ensures { (result.code ≡ block.code) × (result.level ≡ block.level) }
     {
-        block.code
-    }
-
-    fn level(block: Spot) -> u64
-        ensures { result ≡ block.level }
-    {
-        block.level
+        block
     }
 
     fn look(&self, block: Spot) -> Look<Spot> {
@@ -115,29 +102,18 @@ impl<'a> Picture for Tile<'a> {
         Look::Closer(block)
     }
 
+    // Both pictures have this and `put_small`: they are one line each over `joined` and `finish`, and a method that the trait provides
+    // would ask a view, too, for four cells.
     fn count_small(&self, block: Spot) -> Part {
         shortest::joined(self.four(block))
     }
 
     fn put_small(&self, block: Spot, out: &mut [u64], at: u64) -> Part {
-        shortest::finish(out, at, self.four(block), block.code, 0)
+        shortest::finish(out, at, self.four(block), block)
     }
 
     fn quarters(&self, block: Spot) -> Four<Spot> {
-        let (k, level) = (block.code, block.level - 1);
-        let q = morton::area(level);
-        Four {
-            nw: Spot { code: k, level },
-            ne: Spot { code: k + q, level },
-            sw: Spot {
-                code: k + 2 * q,
-                level,
-            },
-            se: Spot {
-                code: k + 3 * q,
-                level,
-            },
-        }
+        block.quarters()
     }
 
     ghost coloured = { λ t b lies k. t.bytes (k - t.first) };

@@ -99,7 +99,8 @@ pub struct Map<'a> {
 impl<'a> Map<'a> {
     ghost use Rattle.tiling.specs.Judged.{Judges};
 
-    // The map of size n, if the list is well formed for it; else what is wrong, as `check` says it.
+    // The map of size n, if the list is well formed for it; else what is wrong, as `check` says it: a position and no refusal, for that is
+    // the first list's or the second's, which the caller knows.
     #[tactic(auto, using(crate::specs::Laws::Check::tiles_formed))]
     pub fn judged(n: u64, list: &'a [u64]) -> Result<Map<'a>, usize>
         requires { n ≤ highest }

@@ -4,7 +4,7 @@ use Rattle.std.proofs.Common.{sym, ap, ◌∙◌, subst, arith, pow_pos, pow_mon
 use Rattle.std.proofs.Math.Nat.{add-mul-mod_self_right, pow-le-pow_right, zero-mod}
 use Rattle.morton.specs.Code.{code, row_of, column_of}
 use Rattle.morton.specs.Power.{highest}
-use Rattle.morton.specs.Block.{Block, Quarters}
+use Rattle.morton.specs.Block.{Block, Quarters, Quarter}
 use Rattle.morton.specs.Laws.Power.{exponent_le}
 use Rattle.morton.specs.Laws.Cell.{code_of_cell, gathered-lt}
 use Rattle.morton.specs.Laws.Quarter.{quarter, halved, block_cells, code-zero}
@@ -49,6 +49,15 @@ pub quarters : (k y x level h q : ℕ) → 0 < level → q ≡ 4 ^ (level - 1) �
 quarters k y x level h q p eq eh b =
     let e : level ≡ suc (level - 1) = omega arith in
     quarters_suc k y x (level - 1) h q eq eh (subst (λ (n : ℕ). Block k y x n) e b)
+
+-- a quarter's code, as the caller has it, and its level
+pub quarter_place : {k level i c l t : ℕ} → Quarter k level i c l → t ≡ k + i * 4 ^ (level - 1) → (c ≡ t) × (l ≡ level - 1)
+quarter_place q e = (q.code ∙ sym e, q.level)
+
+-- a quarter by its code and its level is the block at its row and column
+pub quarter_at : {k level k' level' i c l y x t : ℕ} → (k' ≡ k) × (level' ≡ level) → Quarter k' level' i c l → t ≡ k + i * 4 ^ (level - 1)
+    → Block t y x (level - 1) → Block c y x l
+quarter_at e q p b = rw (q.code, q.level, e.0, e.1, ← p) b
 
 -- the whole square of size n
 pub whole : (n : ℕ) → n ≤ highest → Block 0 0 0 n

@@ -23,3 +23,6 @@ two_four (suc L) = let e : 2 * suc L ≡ suc (suc (2 * L)) = omega arith in ap (
 -- the larger power has the larger exponent
 pub exponent_le : (a b : ℕ) → 2 ^ a ≤ 2 ^ b → a ≤ b
 exponent_le a b h = elim (dec_le a b) [ yes p ↦ p | no p ↦ let q = pow-lt {i = b} {j = a} (omega arith) in absurd (omega arith) ]
+
+pub four_le : (a b : ℕ) → 4 ^ a ≤ 4 ^ b → a ≤ b
+four_le a b h = omega (arith, exponent_le (2 * a) (2 * b) (omega (arith, two_four a, two_four b)))

@@ -1,5 +1,5 @@
 -- A square about a map: wholly beyond it, across its rim, or within it.
-use Rattle.std.specs.Prelude.{◌≡◌, refl, Bool, true, false, ◌||◌, ◌⊎◌, List, ℕ, zero, suc, ◌+◌, ◌-◌, ◌^◌, ◌<◌, ◌≤◌, leb, ltb}
+use Rattle.std.specs.Prelude.{◌≡◌, refl, Bool, true, false, ◌||◌, ◌⊎◌, List, ℕ, zero, suc, ◌+◌, ◌-◌, ◌^◌, ◌<◌, ◌≤◌, ltb}
 use Rattle.std.proofs.Common.{◌∙◌, inl, inr, ⊎_elim, arith, lt-ltb, le-ltb, le-leb, leb-true, leb-false, ltb-true, ltb-false}
 use Rattle.std.proofs.Math.Bool.{and-false}
 use Rattle.std.proofs.lemmas.Bool.{lt-leb}
@@ -8,7 +8,7 @@ use Rattle.tiling.specs.Laws.Tests.{or_either, or_neither}
 use Rattle.probe.specs.Seen.{Shows, Tells, Holds}
 use Rattle.probe.specs.declared.seen.Seen.{Seen}
 use Rattle.probe.specs.declared.seen.Seen.TheVariants.{One, Mixed}
-use Rattle.probe.specs.Biased.{bias, within_b, cell_about}
+use Rattle.probe.specs.Biased.{bias, within_b, beyondb, cell_about}
 use Rattle.probe.specs.Asked.{cell_at, Within}
 
 -- what is told is known from then on
@@ -28,10 +28,7 @@ past n v i h = rw (le-ltb (v + i) (bias + 2 ^ n) (omega arith), and-false)
 among : (n v s i : ℕ) → bias ≤ v → v + s ≤ bias + 2 ^ n → i < s → within_b n (v + i) ≡ true
 among n v s i a b l = rw (le-leb bias (v + i) (omega arith), lt-ltb (v + i) (bias + 2 ^ n) (omega arith))
 
--- the tests, of a square of the side s and a map whose rows and columns end at e
-abbrev pub beyondb : ℕ → ℕ → ℕ → ℕ → Bool
-beyondb row column s e = leb (row + s) bias || leb (column + s) bias || leb e row || leb e column
-
+-- the test, of a square of the side s and a map whose rows and columns end at e, that is put to one that is not wholly beyond the map
 abbrev pub rimb : ℕ → ℕ → ℕ → ℕ → Bool
 rimb row column s e = ltb row bias || ltb column bias || ltb e (row + s) || ltb e (column + s)
 

@@ -1,7 +1,9 @@
 -- Rows of a raster, one after another and block by block.
-use Rattle.std.specs.Prelude.{◌≡◌, refl, List, ℕ, suc, ◌+◌, ◌-◌, ◌*◌, ◌/◌, ◌%◌, ◌^◌, ◌<◌, ◌≤◌, get_or}
-use Rattle.std.proofs.Common.{sym, ap, ap₂, ◌∙◌, mod-lt, div-add-mod', mul-le-mul_right, add-mul, subst, arith, pow_pos, pow_mono, shr_lt}
+use Rattle.std.specs.Prelude.{◌≡◌, refl, List, ℕ, suc, ◌+◌, ◌-◌, ◌*◌, ◌/◌, ◌%◌, ◌^◌, ◌<◌, ◌≤◌, length, get_or}
+use Rattle.std.proofs.Common.{sym, ap, ap₂, ◌∙◌, mod-lt, div-add-mod', mul-le-mul_right, add-mul, subst, arith, rules, pow_pos, pow_mono, shr_lt}
 use Rattle.std.proofs.Math.Nat.{pow-succ', pow-le-pow_right}
+use Rattle.std.proofs.lemmas.List.{places}
+use borrow.Rule.Slice.PartMut.{mid_of, put_mid}
 use Rattle.std.proofs.Math.Decide.{dec_lt}
 use Rattle.morton.specs.Block.{Block as IsBlock, Quartered}
 use Rattle.morton.specs.Code.{code, row_of, column_of}
@@ -19,6 +21,7 @@ use Rattle.probe.specs.Laws.Leaf.{cell_spans, leaf_covers}
 use Rattle.tiling.specs.IsMap.{IsMap}
 use Rattle.tiling.specs.Leaf.{level_of, colour_of}
 use Rattle.tiles.specs.Tile.{Stored, codes}
+use Rattle.tiles.specs.Laws.Store.{stored_part}
 use Rattle.rasters.specs.Raster.{place_colour}
 use Rattle.rasters.specs.Blocks.{Square, Rows, Order, alone, order_of, row_of_tile, tile_cell}
 use Rattle.rasters.specs.Laws.Pixel.{square, place_lt, quarter_inside}
@@ -190,6 +193,28 @@ next_row a w x = omega (arith, add-mul a 1 w)
 -- the order of a tile's cells
 pub order_small : (j : ℕ) → j < 256 → order_of j < 256
 order_small j h = let s : code (j / 16) (j % 16) < 4 ^ 4 = code_inside 4 (j / 16) (j % 16) (omega arith) (omega arith) (omega arith) in omega arith
+
+-- a row of that order
+abbrev row_codes : List ℕ → ℕ → List ℕ
+row_codes order row = mid_of (16 * row) (16 * row + 16 - 16 * row) order
+
+module _ (order : List ℕ) (row : ℕ) (whole : length order ≡ 256) where
+  row_code : row < 16 → (d : ℕ) → d < 16 → get_or (row_codes order row) d 0 ≡ get_or order (16 * row + d) 0
+  row_code h d l = search (rules, places)
+
+  pub row_codes_small : Order order → row < 16 → (d : ℕ) → d < 16 → get_or (row_codes order row) d 0 < 256
+  row_codes_small o h d l = omega (arith, row_code h d l, o.each (16 * row + d) (omega arith), order_small (16 * row + d) (omega arith))
+
+-- a row of a tile that is written over a part of a raster
+pub row_stored : (tile order l m : List ℕ) (row place : ℕ) → length order ≡ 256 → row < 16 → place + 16 ≤ length l → length m ≡ 16
+    → ((d : ℕ) → d < 16 → get_or m d 0 ≡ get_or tile (get_or (row_codes order row) d 0) 0)
+    → Stored l place (place + 16) (row_of_tile tile order (16 * row) place) (put_mid place (place + 16 - place) l m)
+row_stored tile order l m row place e h b n q = stored_part l place (place + 16) m (omega arith) b (omega arith) shown
+  where
+    shown : (d : ℕ) → d < place + 16 - place → get_or m d 0 ≡ row_of_tile tile order (16 * row) place (place + d)
+    shown d k =
+        let z : place + d - place ≡ d = omega arith in
+        rw z (q d (omega arith) ∙ ap (λ (i : ℕ). get_or tile i 0) (row_code order row e h d (omega arith)))
 
 -- a row of a tile, by the order of its cells
 pub tile_row : (tile order : List ℕ) (y x row from : ℕ) → Order order → row < 16 → (d : ℕ) → d < 16

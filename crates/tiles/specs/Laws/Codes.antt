@@ -10,9 +10,9 @@ use Rattle.morton.specs.Laws.Quarter.{code_multiple, aligned_place}
 use Rattle.tiling.specs.Leaf.{level_of, colour_of, end_of}
 use Rattle.tiling.specs.Map.{colour_at}
 use Rattle.tiling.specs.WellFormed.{WellFormed, end_before}
-use Rattle.probe.specs.Biased.{bias, cell_about}
+use Rattle.probe.specs.Biased.{bias, beyondb, cell_about}
 use Rattle.probe.specs.Search.{Found}
-use Rattle.probe.specs.Laws.About.{beyondb, apart_bounds, inner_cell}
+use Rattle.probe.specs.Laws.About.{apart_bounds, inner_cell}
 use Rattle.probe.specs.Laws.Search.{found_colour}
 use Rattle.tiles.specs.Tile.{codes, step_to}
 use Rattle.morton.specs.Power.{highest}

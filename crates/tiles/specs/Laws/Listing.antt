@@ -4,14 +4,14 @@ use Rattle.std.proofs.Common.{sym, ap, ◌∙◌, arith}
 use Rattle.std.proofs.Math.Nat.{pow-succ'}
 use Rattle.std.specs.List.{AllWithin, between}
 use Rattle.std.proofs.lemmas.List.Edits.{length-between, get_or-between}
-use Rattle.std.proofs.Math.Decide.{dec_le}
 use Rattle.morton.specs.Power.{highest}
+use Rattle.morton.specs.Laws.Power.{four_le}
 use Rattle.tiling.specs.Leaf.{colours}
 use Rattle.shortest.specs.Part.{part}
 use Rattle.shortest.specs.Laws.Part.{part_one}
 use Rattle.shortest.specs.Laws.Flat.{Flat}
 use Rattle.shortest.proofs.Flat.{flat_uniform}
-use Rattle.shortest.specs.Laws.Power.{pow_pos, pow_four, pow-le}
+use Rattle.shortest.specs.Laws.Power.{pow_pos}
 use Rattle.tiles.specs.Listing.{spots, Counts}
 
 -- bytes are colours
@@ -58,13 +58,7 @@ all_flat tile first k level from to colour w c ef et ec h j lo hi =
 
 -- a block of a tile is small
 pub low : (first k level : ℕ) → Counts first k level → level ≤ 4
-low first k level c = exponent_le level 4 (omega (arith, c.from, c.to))
-  where
-    exponent_le : (a b : ℕ) → 4 ^ a ≤ 4 ^ b → a ≤ b
-    exponent_le a b h = elim (dec_le a b) [
-      | yes m ↦ m
-      | no m ↦ absurd (let u : 4 ^ suc b ≤ 4 ^ a = pow-le (omega arith) in omega (arith, pow_four b, pow_pos b))
-    ]
+low first k level c = four_le level 4 (omega (arith, c.from, c.to))
 
 -- it lies within the largest square
 pub block_fits : (first k level : ℕ) → Counts first k level → (level ≤ highest) × (k + 4 ^ level ≤ 4 ^ highest)

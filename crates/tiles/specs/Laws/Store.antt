@@ -1,6 +1,6 @@
 -- Colours stored at one place after another.
-use Rattle.std.specs.Prelude.{◌≡◌, refl, List, ℕ, ◌+◌, ◌<◌, ◌≤◌, length, set, replicate, take, drop, ◌-◌}
-use Rattle.std.proofs.Common.{sym, ◌∙◌, arith, get_or-set_same, get_or-set_other}
+use Rattle.std.specs.Prelude.{◌≡◌, refl, List, ℕ, ◌+◌, ◌<◌, ◌≤◌, length, get_or, set, replicate, take, drop, ◌-◌}
+use Rattle.std.proofs.Common.{sym, ap, ◌∙◌, arith, get_or-set_same, get_or-set_other}
 use Rattle.std.proofs.Common.{rules}
 use Rattle.std.proofs.lemmas.List.{places}
 use borrow.Rule.Slice.PartMut.{put_mid}
@@ -9,6 +9,16 @@ use Rattle.tiles.specs.Tile.{Stored, plain}
 
 pub stored_none : (l : List ℕ) (from : ℕ) (h : ℕ → ℕ) → Stored l from from h l
 stored_none l from h = record { ahead = λ i h. refl; among = λ i a b. absurd (omega arith); behind = λ i h. refl }
+
+-- a part written over: its colours stand there from its first place on
+pub stored_part : (l : List ℕ) (from to : ℕ) (m : List ℕ) {h : ℕ → ℕ} → from ≤ to → to ≤ length l → length m ≡ to - from
+    → ((d : ℕ) → d < to - from → get_or m d 0 ≡ h (from + d)) → Stored l from to h (put_mid from (to - from) l m)
+stored_part l from to m {h = h} a b n q =
+    record {
+      ahead = λ i u. search (rules, places);
+      among = λ i u v. (let e : from + (i - from) ≡ i = omega arith in let r : get_or (put_mid from (to - from) l m) i 0 ≡ get_or m (i - from) 0 = search (rules, places) in r ∙ q (i - from) (omega arith) ∙ ap h e);
+      behind = λ i u. search (rules, places);
+    }
 
 -- a colour at every place of a part
 pub stored_filled : (l : List ℕ) (from to colour : ℕ) (m : List ℕ) → from ≤ to → to ≤ length l → m ≡ replicate (length (take (to - from) (drop from l))) colour

@@ -1,6 +1,7 @@
 -- Tiles from what is stored of them: a block beyond the map or within it, four blocks, and a tile that lies across four.
-use Rattle.std.specs.Prelude.{◌≡◌, refl, true, ◌&&◌, List, ℕ, ◌+◌, ◌-◌, ◌%◌, ◌^◌, ◌<◌, ◌≤◌, eqb, get_or}
+use Rattle.std.specs.Prelude.{◌≡◌, refl, true, ◌&&◌, List, ℕ, ◌+◌, ◌-◌, ◌%◌, ◌^◌, ◌<◌, ◌≤◌, eqb, length, get_or}
 use Rattle.std.proofs.Common.{sym, ap, ap₂, ◌∙◌, arith, eqb-true}
+use borrow.Rule.Slice.PartMut.{put_mid, same_len_mid, mid_len}
 use Rattle.std.proofs.Math.Decide.{dec_lt}
 use Rattle.morton.specs.Code.{code, row_of, column_of}
 use Rattle.morton.specs.Laws.Cell.{cell_of-code}
@@ -9,11 +10,11 @@ use Rattle.tiling.specs.Map.{beyond}
 use Rattle.tiling.specs.Laws.Tests.{and_both}
 use Rattle.probe.specs.Seen.{Shows}
 use Rattle.probe.specs.declared.seen.Seen.TheVariants.{Mixed}
-use Rattle.probe.specs.Biased.{bias, cell_about}
-use Rattle.probe.specs.Laws.About.{beyondb, beyond_shows}
+use Rattle.probe.specs.Biased.{bias, beyondb, cell_about}
+use Rattle.probe.specs.Laws.About.{beyond_shows}
 use Rattle.tiles.specs.Tile.{Stored, Tile, Steps, step_to, plain, codes, tile_of}
 use Rattle.tiles.specs.Decoding.{Aligned, About}
-use Rattle.tiles.specs.Laws.Store.{stored_as}
+use Rattle.tiles.specs.Laws.Store.{stored_part, stored_as}
 use Rattle.tiles.specs.Laws.Codes.{tile_cell_lem, step_small, block_cell, second_block, third_block, fourth_block, Inside, inside-cells}
 
 -- ---- a block
@@ -62,6 +63,27 @@ module _ (g : ℕ → ℕ → ℕ) (row column : ℕ) where
           ]
         ]
       ]
+
+  -- so four tiles that are written one after another over a list of 1,024
+  module _ (l m : List ℕ) (from : ℕ) (whole : length l ≡ 1024) (fits : from + 256 ≤ 1024) (wide : length m ≡ 256) where
+    w : from + 256 - from ≡ 256
+    w = omega arith
+
+    part_length : length (put_mid from 256 l m) ≡ 1024
+    part_length = same_len_mid from 256 l m (wide ∙ sym (rw w at (mid_len from (from + 256) l (omega arith)))) ∙ whole
+
+    part_tile : {r c : ℕ} → Tile g r c 256 m → Stored l from (from + 256) (tile_of g r c from) (put_mid from 256 l m)
+    part_tile {r} {c} t =
+        rw w at (stored_part l from (from + 256) m {h = tile_of g r c from} (omega arith) (omega arith) (omega arith) (λ d h. let z : from + d - from ≡ d = omega arith in rw z (t.each d (omega arith))))
+
+  pub four_parts : (l m₀ m₁ m₂ m₃ : List ℕ) → length l ≡ 1024 → length m₀ ≡ 256 → length m₁ ≡ 256 → length m₂ ≡ 256 → length m₃ ≡ 256
+      → Tile g row column 256 m₀ → Tile g row (column + 16) 256 m₁ → Tile g (row + 16) column 256 m₂ → Tile g (row + 16) (column + 16) 256 m₃
+      → Tile g row column 1024 (put_mid 768 256 (put_mid 512 256 (put_mid 256 256 (put_mid 0 256 l m₀) m₁) m₂) m₃)
+  four_parts l m₀ m₁ m₂ m₃ e n₀ n₁ n₂ n₃ t₀ t₁ t₂ t₃ =
+      let e₁ = part_length l m₀ 0 e (omega arith) n₀ in
+      let e₂ = part_length _ m₁ 256 e₁ (omega arith) n₁ in
+      let e₃ = part_length _ m₂ 512 e₂ (omega arith) n₂ in
+      four_tile (part_tile _ _ 0 e (omega arith) n₀ t₀) (part_tile _ _ 256 e₁ (omega arith) n₁ t₁) (part_tile _ _ 512 e₂ (omega arith) n₂ t₂) (part_tile _ _ 768 e₃ (omega arith) n₃ t₃)
 
   -- a tile of one colour
   pub known_tile : (colour : ℕ) → Shows g row column 4 colour → {before after : List ℕ} → Stored before 0 256 (plain colour) after → Tile g row column 256 after

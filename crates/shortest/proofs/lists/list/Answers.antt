@@ -12,7 +12,7 @@ write-requires g c =
     let r = c.requires in
     let f = m.colour_at a.picture.now in
     let n = m.level_of a.whole in
-    let area : c.area.result ≡ 4 ^ n = rw c.level.ensures at c.area.ensures.is in
+    let area : c.area.result ≡ 4 ^ n = rw c.spot.ensures.1 at c.area.ensures.is in
     let fits : length (shortest f n 0) ≤ length a.out.now = elim c.if-out-area.branch [
       | then-out-area+else-out-leaves w ↦ omega arith
       | else-out-area w ↦ always_fits f (g.met.P.Picture.coloured a.picture.now a.whole r.0) n (g.met.P.Picture.fits a.picture.now a.whole r.0).0 _ (omega (arith, area))

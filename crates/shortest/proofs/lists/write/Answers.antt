@@ -1,5 +1,6 @@
 -- `shortest::write` meets its contract: the whole picture is a block, and its leaf is stored if it is of one colour.
 use Rattle.shortest.proofs.lists.write.Goals.{After-put-part}
+use Rattle.std.proofs.Common.{rules}
 use Rattle.std.proofs.Math.Path.{◌≡◌, ◌∙◌}
 use Rattle.shortest.specs.Part.{part}
 use Rattle.shortest.specs.Coded.{number_of}
@@ -24,7 +25,7 @@ fill-requires g c =
     let a = c.args in
     let m = g.P.Picture in
     let r = c.requires in
-    rw c.level.ensures (whole_fills (m.colour_at a.picture.now) (g.met.P.Picture.coloured a.picture.now a.whole r.0) (m.level_of a.whole) (g.met.P.Picture.fits a.picture.now a.whole r.0).0 a.out.now r.2 _ _ (whole g (goal.at.fill-requires g c).After-put-part) c.put-part.auto.out)
+    search (rules, whole_fills (m.colour_at a.picture.now) (g.met.P.Picture.coloured a.picture.now a.whole r.0) (m.level_of a.whole) (g.met.P.Picture.fits a.picture.now a.whole r.0).0 a.out.now r.2 _ _ (whole g (goal.at.fill-requires g c).After-put-part) c.put-part.auto.out)
 
 pub returns : goal.returns
 returns g c =
@@ -39,5 +40,5 @@ returns g c =
     let e = whole g (goal.at.returns g c).After-put-part in
     record {
       counted = c.size.ensures ∙ whole-size f b n low _ e;
-      left = rw c.level.ensures at c.fill.ensures ∙ whole-left f b n low a.out.now r.2 _ _ e p.auto.out (rw r.1 at p.ensures.left);
+      left = search (rules, c.fill.ensures, whole-left f b n low a.out.now r.2 _ _ e p.auto.out (rw r.1 at p.ensures.left));
     }

@@ -2,12 +2,12 @@
 use Rattle.shortest.proofs.walk.+puts.Given.{Over}
 use Rattle.shortest.proofs.walk.+puts.Goals.{put_quarters-After-size, put_quarters-After-size-2, put_quarters-After-size-3, put_quarters-After-put-se}
 use Rattle.std.proofs.Math.Path.{◌∙◌}
-use Rattle.std.proofs.Common.{rules, refl, ap, arith, ℕ, ◌+◌, ◌-◌}
+use Rattle.std.proofs.Common.{rules, refl, arith, ℕ, ◌+◌, ◌-◌}
 use Rattle.shortest.specs.Part.{size_of}
 use Rattle.shortest.specs.Coded.{number_of}
 use Rattle.shortest.specs.Laws.Quarters.{Ready}
 use Rattle.shortest.specs.Laws.Written.{colour_inner}
-use Rattle.shortest.proofs.Steps.{Done, place_nw, place_ne, place_sw, place_se, fits_ne, fits_sw, fits_se, all_done, all_part, all_wrote, finishes_same, finished_same}
+use Rattle.shortest.proofs.Steps.{Done, place_nw, place_ne, place_sw, place_se, fits_ne, fits_sw, fits_se, all_done, all_part, all_wrote}
 use Rattle.shortest.proofs.walk.+puts.Goals as goal
 
 pub put-returns-in-One-clause-left : goal.put-returns-in-One-clause-left
@@ -77,7 +77,8 @@ all g t c =
 
 pub put_quarters-finish-requires : goal.put_quarters-finish-requires
 put_quarters-finish-requires g t c =
-    finishes_same c.code.ensures (ap (λ (n : ℕ). n - 1) c.level.ensures) (all g t (goal.at.put_quarters-finish-requires g t c).After-put-se).finishes
+    let f = (all g t (goal.at.put_quarters-finish-requires g t c).After-put-se).finishes in
+    (omega (arith, c.spot.ensures.1, c.requires.1.some), rw (c.spot.ensures.0, c.spot.ensures.1) f)
 
 pub put_quarters-returns-clause-part : goal.put_quarters-returns-clause-part
 put_quarters-returns-clause-part g t c =
@@ -88,5 +89,5 @@ pub put_quarters-returns-clause-left : goal.put_quarters-returns-clause-left
 put_quarters-returns-clause-left g t c =
     let h = (goal.at.put_quarters-returns-clause-left g t c).After-put-se in
     c.finish.ensures.left
-    ∙ finished_same _ _ _ _ _ _ _ _ _ _ c.code.ensures (ap (λ (n : ℕ). n - 1) c.level.ensures)
+    ∙ rw (c.spot.ensures.0, c.spot.ensures.1) refl
     ∙ all_wrote c.requires.1 c.requires.2 (done₀ g t (goal.at.put_quarters-After-put-se g t h).After-size) (done₁ g t (goal.at.put_quarters-After-put-se g t h).After-size-2) (done₂ g t (goal.at.put_quarters-After-put-se g t h).After-size-3) (done₃ g t h)

@@ -1,27 +1,24 @@
 -- `morton::Block::quarters` meets its contract: each quarter is a block one level down.
-use Rattle.morton.proofs.block.Block.quarters.Goals.{After-area-area}
-use Rattle.std.proofs.Common.{arith, ◌-◌}
+use Rattle.morton.proofs.block.Block.quarters.Goals.{After-side-side}
+use Rattle.std.proofs.Common.{refl, arith, ◌-◌, ◌^◌}
 use Rattle.morton.specs.Block.{Quarters}
-use Rattle.morton.specs.Laws.Block.{block_level, quarters}
+use Rattle.morton.specs.Laws.Block.{block_level, quarters, quarter_at}
 use Rattle.morton.proofs.block.Block.quarters.Goals as goal
 
 pub side-side-requires : goal.side-side-requires
-side-side-requires c = omega (arith, block_level _ _ _ _ c.args.self.is)
+side-side-requires c = omega (arith, c.spot.ensures.1, c.quarters-spot.ensures.nw.level, block_level _ _ _ _ c.args.self.is)
 
-pub area-area-requires : goal.area-area-requires
-area-area-requires c = omega (arith, block_level _ _ _ _ c.args.self.is)
+four : (c : After-side-side) → let b = c.args.self in Quarters b.code b.row b.column (b.level - 1) c.side-side.result (4 ^ (b.level - 1))
+four c = quarters _ _ _ _ _ _ c.requires refl (rw (c.quarters-spot.ensures.nw.level, c.spot.ensures.1) at c.side-side.ensures.is) c.args.self.is
 
-four : (c : After-area-area) → let b = c.args.self in Quarters b.code b.row b.column (b.level - 1) c.side-side.result c.area-area.result
-four c = quarters _ _ _ _ _ _ c.requires c.area-area.ensures.is c.side-side.ensures.is c.args.self.is
+pub at-requires : goal.at-requires
+at-requires c = quarter_at c.spot.ensures c.quarters-spot.ensures.nw (omega arith) (four (goal.at.at-requires c).After-side-side).nw
 
-pub invariant_of-nw : goal.invariant_of-nw
-invariant_of-nw c = record { is = (four (goal.at.invariant_of-nw c).After-area-area).nw }
+pub at-requires-2 : goal.at-requires-2
+at-requires-2 c = quarter_at c.spot.ensures c.quarters-spot.ensures.ne (omega arith) (four (goal.at.at-requires-2 c).After-side-side).ne
 
-pub invariant_of-ne : goal.invariant_of-ne
-invariant_of-ne c = record { is = (four (goal.at.invariant_of-ne c).After-area-area).ne }
+pub at-requires-3 : goal.at-requires-3
+at-requires-3 c = quarter_at c.spot.ensures c.quarters-spot.ensures.sw (omega arith) (four (goal.at.at-requires-3 c).After-side-side).sw
 
-pub invariant_of-sw : goal.invariant_of-sw
-invariant_of-sw c = record { is = (four (goal.at.invariant_of-sw c).After-area-area).sw }
-
-pub invariant_of-se : goal.invariant_of-se
-invariant_of-se c = record { is = (four (goal.at.invariant_of-se c).After-area-area).se }
+pub at-requires-4 : goal.at-requires-4
+at-requires-4 c = quarter_at c.spot.ensures c.quarters-spot.ensures.se (omega arith) (four (goal.at.at-requires-4 c).After-side-side).se

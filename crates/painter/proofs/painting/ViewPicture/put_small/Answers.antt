@@ -5,13 +5,13 @@ use Rattle.painter.proofs.painting.ViewPicture.put_small.Goals as goal
 
 pub put-requires : goal.put-requires
 put-requires c =
-    let s = c.spot.ensures in
+    let s = c.whole.ensures in
     let t = c.tile_over-tile.ensures in
     (s.2, tile_placed c.args.self.now c.args.glance.block c.requires.0.1.level_is _ t.1 _ _ (s.0 ∙ t.0) s.1 _ _ c.requires.1)
 
 pub returns : goal.returns
 returns c =
-    let s = c.spot.ensures in
+    let s = c.whole.ensures in
     let t = c.tile_over-tile.ensures in
     let v = c.args.self.now in
     let b = c.args.glance.block in

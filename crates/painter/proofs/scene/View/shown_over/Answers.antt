@@ -6,4 +6,4 @@ use Rattle.painter.proofs.scene.View.shown_over.Goals as goal
 pub shown-requires : goal.shown-requires
 shown-requires c =
     let b = c.args.glance.block.is in
-    (record { level_in = block_level _ _ _ _ b; row_lt = omega (arith, b.bottom); column_lt = omega (arith, b.right) }, c.requires)
+    rw c.from.ensures (record { level_in = block_level _ _ _ _ b; row_lt = omega (arith, b.bottom); column_lt = omega (arith, b.right) }, c.requires)
