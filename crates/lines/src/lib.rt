@@ -30,11 +30,6 @@ pub fn refused(rt: &impl Print, r: Refusal) -> io::Result<()> {
     println!(rt; ": {r}")
 }
 
-// A number that may be negative.
-pub fn signed(rt: &impl Print, z: i64) -> io::Result<()> {
-    print!(rt; "{z}")
-}
-
 // Words of memory, on one line.
 pub fn words(rt: &impl Print, list: &[u64]) -> io::Result<()> {
     for word in list {

@@ -6,5 +6,6 @@
 mod lists;
 mod neighbours;
 
-pub use lists::{Cell, check, lookup};
+pub use lists::{check, lookup};
 pub use neighbours::{Direction, neighbour};
+pub use tiling::Cell;

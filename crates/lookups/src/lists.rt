@@ -10,14 +10,7 @@ ghost use Rattle.tiling.specs.Judged.{Gives};
 ghost use Rattle.lookups.specs.Lists.{list_check, cell_lookup};
 
 use refusal::Refusal;
-use tiling::Map;
-
-// A cell, by its row from the north and its column from the west, which may be negative.
-#[derive(Clone, Copy, Debug, PartialEq, Eq)]
-pub struct Cell {
-    pub row: i64,
-    pub column: i64,
-}
+use tiling::{Cell, Map};
 
 // The first map of a call, of size n; its size and its list are judged.
 fn first_map(n: u64, list: &[u64]) -> Result<Map<'_>, Refusal>
@@ -43,8 +36,8 @@ pub fn lookup(n: u64, list: &[u64], cell: Cell) -> Result<u8, Refusal>
     ensures { answered result ≡ cell_lookup n list.now cell.row cell.column }
 {
     let map = first_map(n, list)?;
-    if !tiling::inside(n, cell.row, cell.column) {
+    if !tiling::inside(n, cell) {
         return Err(Refusal::Outside);
     }
-    Ok(probe::colour_in(&map, cell.row, cell.column))
+    Ok(probe::colour_in(&map, cell))
 }

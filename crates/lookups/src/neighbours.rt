@@ -5,6 +5,7 @@ ghost use Rattle.refusal.specs.Read.{answered};
 ghost use Rattle.lookups.specs.Neighbour.{is_block, southward, eastward, neighbour};
 
 use refusal::Refusal;
+use tiling::Cell;
 
 // The eight directions, clockwise from north.
 #[derive(Clone, Copy, Debug, PartialEq, Eq)]
@@ -47,6 +48,7 @@ fn stepped(v: u64, ways: i64, side: u64) -> i64
 }
 
 // Whether a code and a level are those of a block of a square of size n, a number for the reason given at `tiling::LIMIT`.
+// They are two numbers and no `morton::Spot`, since they are a block's only once this is answered.
 fn is_block(n: u64, code: u64, level: u64) -> bool
     requires { n ≤ highest }
     ensures { result ≡ is_block n code level }
@@ -70,8 +72,9 @@ pub fn neighbour(n: u64, code: u64, level: u64, direction: Direction) -> Result<
     let (southward, eastward) = direction.away();
     let row = stepped(morton::row_of(code), southward, side);
     let column = stepped(morton::column_of(code), eastward, side);
-    if !tiling::inside(n, row, column) {
+    let cell = Cell { row, column };
+    if !tiling::inside(n, cell) {
         return Err(Refusal::Outside);
     }
-    Ok(tiling::cell_code(n, row, column))
+    Ok(tiling::cell_code(n, cell))
 }

@@ -29,6 +29,18 @@ pub struct Four<T> {
     pub se: T,
 }
 
+// The code and the level of a block.
+impl From<Block> for Spot {
+    ghost from_gives = { λ block spot. spot ≡ record { code = block.code; level = block.level } };
+
+    fn from(block: Block) -> Spot {
+        Spot {
+            code: block.code,
+            level: block.level,
+        }
+    }
+}
+
 impl Spot {
     // The quarters of a block that is no single cell.
     pub fn quarters(self) -> Four<Spot>
@@ -86,16 +98,6 @@ impl Block {
         }
     }
 
-    // Its code and its level.
-    pub fn spot(self) -> Spot
-        ensures { (result.code ≡ self.code) × (result.level ≡ self.level) }
-    {
-        Spot {
-            code: self.code,
-            level: self.level,
-        }
-    }
-
     // The quarters of a block that is no single cell.
     pub fn quarters(self) -> Four<Block>
         requires { 0 < self.level }
@@ -104,7 +106,7 @@ impl Block {
         ensures sw { Quartered self.code self.row self.column (self.level - 1) 1 0 result.sw.code result.sw.row result.sw.column result.sw.level }
         ensures se { Quartered self.code self.row self.column (self.level - 1) 1 1 result.se.code result.se.row result.se.column result.se.level }
     {
-        let spot = self.spot().quarters();
+        let spot = Spot::from(self).quarters();
         let (row, column) = (self.row, self.column);
         let side = super::side(spot.nw.level);
         let (south, east) = (row + side, column + side);

@@ -49,7 +49,7 @@ impl<'a> Picture for View<'a> {
     fn spot(glance: Glance) -> Spot
         ensures { (result.code ≡ glance.block.code) × (result.level ≡ glance.block.level) }
     {
-        glance.block.spot()
+        Spot::from(glance.block)
     }
 
     fn look(&self, glance: Glance) -> Look<Glance> {

@@ -3,7 +3,7 @@ ghost use Rattle.std.specs.Prelude.{◌≡◌, true, ◌≤◌};
 ghost use Rattle.tiling.specs.Map.{inside, colour_in};
 ghost use Rattle.probe.specs.Search.{Spans, Found, Between, After, Before};
 
-use tiling::Map;
+use tiling::{Cell, Map};
 
 // Its place, where it lies at or after one place and before another: the last leaf that does not begin past the code.
 fn between(list: &[u64], code: u64, from: usize, to: usize) -> usize
@@ -52,7 +52,8 @@ fn before(list: &[u64], code: u64, to: usize) -> usize
     between(list, code, 0, hi)
 }
 
-// The place of the leaf in which a code lies, sought from a hint: a place near it, or any number.
+// The place of the leaf in which a code lies, sought from a hint: a place near it, or any number. The choice between `after`
+// and `before` is by hand, since the library has no search from a hint.
 pub fn find(list: &[u64], code: u64, hint: usize) -> usize
     requires { Spans list.now code }
     ensures { Found list.now code result }
@@ -67,11 +68,11 @@ pub fn find(list: &[u64], code: u64, hint: usize) -> usize
 }
 
 // The colour of a cell of a map.
-pub fn colour_in(map: &Map, row: i64, column: i64) -> u8
-    requires { inside map.now.n row column ≡ true }
-    ensures { result ≡ colour_in map.now.n map.now.list.now row column }
+pub fn colour_in(map: &Map, cell: Cell) -> u8
+    requires { inside map.now.n cell.row cell.column ≡ true }
+    ensures { result ≡ colour_in map.now.n map.now.list.now cell.row cell.column }
 {
     let list = map.list;
-    let at = find(list, tiling::cell_code(map.n, row, column), list.len());
+    let at = find(list, tiling::cell_code(map.n, cell), list.len());
     tiling::colour_of(list[at])
 }

@@ -43,7 +43,7 @@ pub struct Chart<'a> {
     pub table: &'a Spread,
 }
 
-// A row or a column that may be negative, biased. Nowhere else is a signed number turned.
+// A row or a column that may be negative, biased: from here on rows and columns are natural numbers.
 pub fn biased(v: i64) -> u64
     requires { nat_abs v ≤ reach }
     ensures { result ≡ biased v }

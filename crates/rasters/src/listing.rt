@@ -67,7 +67,7 @@ impl<'a> Picture for Raster<'a> {
     fn spot(block: Block) -> Spot
         ensures { (result.code ≡ block.code) × (result.level ≡ block.level) }
     {
-        block.spot()
+        Spot::from(block)
     }
 
     fn look(&self, block: Block) -> Look<Block> {
@@ -78,16 +78,14 @@ impl<'a> Picture for Raster<'a> {
         }
     }
 
-    // Both pictures have this and `put_small`: they are one line each over `joined` and `finish`, and a method that the trait provides
-    // would ask a view, too, for four cells.
+    // A tile has this line and that of `put_small` too: one line each over `joined` and `finish`, and a method that the trait provides
+    // would ask a view for four cells as well.
     fn count_small(&self, block: Block) -> Part {
         shortest::joined(self.four(block))
     }
 
-    // The level is written out, for one that is known here costs four instructions fewer at each such block than the block's own.
     fn put_small(&self, block: Block, out: &mut [u64], at: u64) -> Part {
-        let code = block.code;
-        shortest::finish(out, at, self.four(block), Spot { code, level: 1 })
+        shortest::finish(out, at, self.four(block), Spot::from(block))
     }
 
     fn quarters(&self, block: Block) -> Four<Block> {

@@ -34,10 +34,8 @@ module _ (f : ℕ → ℕ) (coloured : (j : ℕ) → f j < colours) (k : ℕ) {p
           ready f coloured o at 0 k (rw one at h) o p₀ _ (cell_wrote f k o at p₀ e₀) o p₁ _ (cell_wrote f (k + 1) o _ p₁ e₁) o p₂ _ (cell_wrote f (k + 2) o _ p₂ e₂) o p₃ _ (cell_wrote f (k + 3) o _ p₃ e₃)
           (omega (arith, fits)) (omega arith)
 
-      -- with the block's level as the caller has it
-      module _ {l : ℕ} (level : l ≡ L) where
-        pub cells_finish : (0 < l) × Finishes o at p₀ p₁ p₂ p₃ k (l - 1)
-        cells_finish = rw (level, one) (omega arith, done.finishes)
+      pub cells_finish : (0 < L) × Finishes o at p₀ p₁ p₂ p₃ k (L - 1)
+      cells_finish = rw one (omega arith, done.finishes)
 
-        pub cells_wrote : finished o at p₀ p₁ p₂ p₃ k (l - 1) ≡ sets o at (inner f L k)
-        cells_wrote = rw (level, one) done.written
+      pub cells_wrote : finished o at p₀ p₁ p₂ p₃ k (L - 1) ≡ sets o at (inner f L k)
+      cells_wrote = rw one done.written

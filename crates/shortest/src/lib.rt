@@ -92,7 +92,7 @@ pub fn fill(out: &mut [u64], at: u64, part: Part, block: Spot)
 {
     if let Part::Colour(colour) = part {
         let i = at as usize;
-        out[i] = tiling::leaf(block.code, block.level, colour);
+        out[i] = tiling::leaf(block, colour);
     }
 }
 

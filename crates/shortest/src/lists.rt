@@ -1,4 +1,5 @@
-// The shortest list of a whole picture: counted, written, or refused if there is no room for it.
+// The shortest list of a whole picture: counted, written, or refused if there is no room for it. The whole goes beside the picture and is
+// not asked of it, since a view of two maps would hold its window's size for these three alone.
 ghost use Rattle.std.specs.Prelude.{◌≡◌, ◌≤◌, ◌++◌, length, drop};
 ghost use Rattle.refusal.specs.Read.{answered};
 ghost use Rattle.shortest.specs.Shortest.{shortest};

@@ -15,16 +15,8 @@ use tiling::Map;
 // The level of a tile; it has 16 cells a side, 256 in all.
 pub const LEVEL: u64 = 4;
 
-// Stores a colour at the places from one on and before another.
+// Stores a colour at the places from one on and before another, of which there is often only one.
 pub fn store(cells: &mut [u8], from: usize, to: usize, colour: u8)
-    requires { (from ≤ to) × (to ≤ length cells.old) }
-    ensures { Stored cells.old from to (plain colour) cells.new }
-{
-    cells[from..to].fill(colour);
-}
-
-// The same for the cells of a leaf, of which there is often only one.
-fn run(cells: &mut [u8], from: usize, to: usize, colour: u8)
     requires { (from ≤ to) × (to ≤ length cells.old) }
     ensures { Stored cells.old from to (plain colour) cells.new }
 {
@@ -32,7 +24,7 @@ fn run(cells: &mut [u8], from: usize, to: usize, colour: u8)
         cells[from] = colour;
         return;
     }
-    store(cells, from, to, colour);
+    cells[from..to].fill(colour);
 }
 
 // Where a leaf's cells end among those of the 256 codes from one on, the first of which is at the place `from`.
@@ -49,7 +41,7 @@ fn last_of(w: u64, code: u64, from: usize) -> usize
 
 // Stores the colours of the 256 codes from one on, leaf by leaf. The loop ends by the place and not by the list, so an iterator over leaves
 // would need a second test, and a proof that it does not end first. The place `from` stands beside the memory, which is no slice from there
-// on: what is promised here holds of any memory of up to 1,024 cells.
+// on: this public function promised what it does of any memory of up to 1,024 cells, and may ask no more.
 pub fn decode(map: &Map, code: u64, hint: usize, cells: &mut [u8], from: usize)
     requires { Decodes map.now.n code from (length cells.old) }
     ensures { Stored cells.old from (from + 256) (codes map.now.list.now code from) cells.new }
@@ -61,13 +53,14 @@ pub fn decode(map: &Map, code: u64, hint: usize, cells: &mut [u8], from: usize)
     while place < end {
         let w = map.list[at];
         let next = last_of(w, code, from);
-        run(cells, place, next, tiling::colour_of(w));
+        store(cells, place, next, tiling::colour_of(w));
         place = next;
         at += 1;
     }
 }
 
-// Stores the cells of the aligned block at a biased row and column, which may lie beyond the map.
+// Stores the cells of the aligned block at a biased row and column, which may lie beyond the map. They are a slice and no array, since they
+// are a quarter of a larger one: to make an array of a slice can fail, and here cannot.
 fn block(chart: &Chart, hint: usize, row: u64, column: u64, cells: &mut [u8])
     requires { Aligned chart.now.map.n row column × (length cells.old ≡ 256) }
     ensures { Tile (cell_about chart.now.map.n chart.now.map.list.now) row column 256 cells.new }

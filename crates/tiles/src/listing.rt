@@ -102,8 +102,8 @@ impl<'a> Picture for Tile<'a> {
         Look::Closer(block)
     }
 
-    // Both pictures have this and `put_small`: they are one line each over `joined` and `finish`, and a method that the trait provides
-    // would ask a view, too, for four cells.
+    // A raster has this line and that of `put_small` too: one line each over `joined` and `finish`, and a method that the trait provides
+    // would ask a view for four cells as well.
     fn count_small(&self, block: Spot) -> Part {
         shortest::joined(self.four(block))
     }

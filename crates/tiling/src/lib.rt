@@ -12,7 +12,7 @@ ghost use Rattle.tiling.specs.Map.{limit, within, inside};
 ghost use Rattle.tiling.specs.IsMap.{IsMap};
 ghost use Rattle.tiling.specs.Check.{right_end, checked};
 
-use morton::Spread;
+use morton::{Spot, Spread};
 use refusal::Refusal;
 
 // The largest size of a map. A size is a number and no type of its own: where a contract asks `n ≤ highest`, `sized`, a `Map` or the
@@ -30,11 +30,11 @@ pub fn sized(n: u64, number: u64) -> Result<(), Refusal>
 }
 
 // The word of a leaf: a number and no struct, since lists of such words are what is kept, and lent by C.
-pub fn leaf(code: u64, level: u64, colour: u8) -> u64
-    requires { (code < 4 ^ highest) × (level ≤ highest) }
-    ensures { result ≡ leaf code level colour }
+pub fn leaf(block: Spot, colour: u8) -> u64
+    requires { (block.code < 4 ^ highest) × (block.level ≤ highest) }
+    ensures { result ≡ leaf block.code block.level colour }
 {
-    code * 65536 + level * 256 + colour as u64
+    block.code * 65536 + block.level * 256 + colour as u64
 }
 
 // The code of a leaf's block.
@@ -129,6 +129,13 @@ pub fn check(n: u64, list: &[u64]) -> Result<(), usize>
     }
 }
 
+// A cell, by its row from the north and its column from the west, which may be negative.
+#[derive(Clone, Copy, Debug, PartialEq, Eq)]
+pub struct Cell {
+    pub row: i64,
+    pub column: i64,
+}
+
 // Whether a row or a column lies within a square of size n.
 fn within(n: u64, v: i64) -> bool
     requires { n ≤ highest }
@@ -141,18 +148,18 @@ fn within(n: u64, v: i64) -> bool
 }
 
 // Whether a cell lies within a square of size n.
-pub fn inside(n: u64, row: i64, column: i64) -> bool
+pub fn inside(n: u64, cell: Cell) -> bool
     requires { n ≤ highest }
-    ensures { result ≡ inside n row column }
+    ensures { result ≡ inside n cell.row cell.column }
 {
-    within(n, row) & within(n, column)
+    within(n, cell.row) & within(n, cell.column)
 }
 
-// The code of a cell of a square of size n, by its row and its column.
-pub fn cell_code(n: u64, row: i64, column: i64) -> u64
-    requires { (n ≤ highest) × (inside n row column ≡ true) }
-    ensures { result ≡ code (nat_abs row) (nat_abs column) }
+// The code of a cell of a square of size n.
+pub fn cell_code(n: u64, cell: Cell) -> u64
+    requires { (n ≤ highest) × (inside n cell.row cell.column ≡ true) }
+    ensures { result ≡ code (nat_abs cell.row) (nat_abs cell.column) }
 {
     let spread = Spread::new();
-    spread.code_of(row as u64, column as u64)
+    spread.code_of(cell.row as u64, cell.column as u64)
 }

@@ -5,11 +5,7 @@ use oboeridge::{Ground, Place, Shift};
 use std::io;
 
 fn shifted(rt: &impl Print, s: Shift) -> io::Result<()> {
-    lines::say(rt, b": (")?;
-    lines::signed(rt, s.dy)?;
-    lines::say(rt, b", ")?;
-    lines::signed(rt, s.dx)?;
-    lines::say(rt, b")\n")
+    println!(rt; ": ({}, {})", s.dy, s.dx)
 }
 
 fn placing(rt: &impl Print, what: &[u8], p: Place) -> io::Result<()> {

@@ -34,7 +34,7 @@ loop-place-preserved c =
     let e = c.last_of-next.ensures in (
       omega (arith, some (goal.at.loop-place-preserved c).After-last_of-next, k.invariant.0),
       omega (arith, e, last_within (w (goal.at.loop-place-preserved c).After-last_of-next) a.code a.from),
-      c.run.auto.cells ∙ k.invariant.2,
-      stored_run k.invariant.0 (omega (arith, some (goal.at.loop-place-preserved c).After-last_of-next)) (λ i u v. run_colours a.map.now.n l a.map.now.is.formed a.code a.from k.place k.at k.invariant.0 f i u (omega (arith, e)) ∙ sym c.colour_of.ensures) k.invariant.3 c.run.ensures,
+      c.store.auto.cells ∙ k.invariant.2,
+      stored_run k.invariant.0 (omega (arith, some (goal.at.loop-place-preserved c).After-last_of-next)) (λ i u v. run_colours a.map.now.n l a.map.now.is.formed a.code a.from k.place k.at k.invariant.0 f i u (omega (arith, e)) ∙ sym c.colour_of.ensures) k.invariant.3 c.store.ensures,
       λ h. rw e (run_next a.map.now.n l a.map.now.is.formed a.code a.from k.place k.at p.inside f (omega (arith, e))),
     )
