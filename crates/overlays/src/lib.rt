@@ -70,7 +70,7 @@ fn origin(w: i64, d: i64) -> u64
     probe::biased(w - d)
 }
 
-// Two maps under an operation, as they lie under the window.
+// Two maps under an operation, as they lie under the window, with room for the steps of each.
 fn view<'a>(
     operation: Operation,
     first: Map<'a>,
@@ -78,6 +78,7 @@ fn view<'a>(
     shift: Shift,
     window: Window,
     table: &'a Spread,
+    rooms: (&'a mut [u16; 256], &'a mut [u16; 256]),
 ) -> View<'a>
     requires { Near shift.dy shift.dx window.wy window.wx }
     ensures { picture_in result ≡ picture (scene_of operation first.entry.n second.entry.n shift window) first.entry.list.now second.entry.list.now }
@@ -86,11 +87,17 @@ fn view<'a>(
     let second = Chart { map: second, table };
     View {
         operation,
-        first: Layer::new(first, probe::biased(window.wy), probe::biased(window.wx)),
+        first: Layer::new(
+            first,
+            probe::biased(window.wy),
+            probe::biased(window.wx),
+            rooms.0,
+        ),
         second: Layer::new(
             second,
             origin(window.wy, shift.dy),
             origin(window.wx, shift.dx),
+            rooms.1,
         ),
     }
 }
@@ -126,7 +133,10 @@ pub fn overlay(
     let window = framed(n, frame);
     let (first, second) = judge(n, first, m, second, shift, window)?;
     let table = Spread::new();
-    let view = view(operation, first, second, shift, window, &table);
+    let mut first_room = [0; 256];
+    let mut second_room = [0; 256];
+    let rooms = (&mut first_room, &mut second_room);
+    let view = view(operation, first, second, shift, window, &table, rooms);
     shortest::list(&view, Glance::whole(window.size), out)
 }
 

@@ -10,29 +10,29 @@ use morton::Block;
 use probe::{Chart, Seen, Square};
 
 // A map, where the window's first cell lies in it, at a biased row and column, and the steps of the window's tiles in it: the same for
-// all of them, since they are a tile's side apart.
+// all of them, since they are a tile's side apart. They stand in memory that is lent, for a layer that held them would be copied with them.
 #[derive(Clone, Copy, Debug, PartialEq, Eq)]
 pub struct Layer<'a> {
     pub chart: Chart<'a>,
     pub row: u64,
     pub column: u64,
-    pub steps: [u16; 256],
+    pub steps: &'a [u16; 256],
     pub ghost near: { (row < 2 ^ 19) × (column < 2 ^ 19) },
-    pub ghost stepped: { Steps (row % 16) (column % 16) steps },
+    pub ghost stepped: { Steps (row % 16) (column % 16) steps.now },
 }
 
 impl<'a> Layer<'a> {
-    pub fn new(chart: Chart<'a>, row: u64, column: u64) -> Layer<'a>
+    pub fn new(chart: Chart<'a>, row: u64, column: u64, room: &'a mut [u16; 256]) -> Layer<'a>
         requires { (row < 2 ^ 19) × (column < 2 ^ 19) }
         ensures map { (result.chart.map.n ≡ chart.entry.map.n) × (result.chart.map.list.now ≡ chart.entry.map.list.now) }
         ensures place { (result.row ≡ row) × (result.column ≡ column) }
     {
-        let steps = tiles::steps(row % 16, column % 16, chart.table);
+        tiles::put_steps(row % 16, column % 16, chart.table, room);
         Layer {
             chart,
             row,
             column,
-            steps,
+            steps: room,
         }
     }
 
@@ -67,6 +67,6 @@ impl<'a> Layer<'a> {
         ensures { Tile (cell_about self.now.chart.map.n self.now.chart.map.list.now) (self.now.row + block.row) (self.now.column + block.column) 256 cells.new }
     {
         let (row, column) = (self.row + block.row, self.column + block.column);
-        tiles::tile(&self.chart, known, row, column, &self.steps, cells);
+        tiles::tile(&self.chart, known, row, column, self.steps, cells);
     }
 }

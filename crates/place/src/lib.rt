@@ -33,10 +33,10 @@ pub struct Shift {
 
 // A ground reference in 1024ths.
 #[derive(Clone, Copy, Debug, PartialEq, Eq)]
-struct Reading {
-    north: i64,
-    east: i64,
-    cell: i64,
+pub struct Reading {
+    pub north: i64,
+    pub east: i64,
+    pub cell: i64,
 }
 
 // A usable ground number in 1024ths. The product is exact, and the comparison tells whether the cast cut anything off.

@@ -7,18 +7,16 @@ ghost use Rattle.rasters.specs.Blocks.{Square, Rows, Order, alone, tile_cell};
 use morton::{Block, Four, Spread};
 use tiling::Map;
 
-// The code of each cell of a tile, row by row.
-fn order(table: &Spread) -> [u16; 256]
-    ensures { Order result }
+// The code of each cell of a tile, row by row: in memory that is lent, since a table that is answered is copied.
+fn put_order(table: &Spread, order: &mut [u16; 256])
+    ensures { Order order.new }
 {
-    let mut order = [0; 256];
     // the codes of the cells before j are there
     for (j, place) in order.iter_mut().enumerate() {
         let k = j as u64;
         let code = table.code_of(k / 16, k % 16);
         *place = code as u16;
     }
-    order
 }
 
 // Fills the square of a block with a colour.
@@ -35,13 +33,13 @@ fn square(n: u64, cells: &mut [u8], block: Block, colour: u8)
     }
 }
 
-// A map that is written out, and the order of a tile's cells, which is made once. The raster's memory is no field beside them: it is the
+// A map that is written out, and the order of a tile's cells, which is made once and lent. The raster's memory is no field beside them: it is the
 // caller's and goes down a recursion, and each contract, which names `cells` itself, would speak of it through the struct's borrow.
 #[derive(Clone, Copy, Debug, PartialEq, Eq)]
 struct Filler<'a> {
     map: Map<'a>,
-    order: [u16; 256],
-    ghost rows: { Order order },
+    order: &'a [u16; 256],
+    ghost rows: { Order order.now },
 }
 
 impl<'a> Filler<'a> {
@@ -51,11 +49,12 @@ impl<'a> Filler<'a> {
         ensures { Rows self.now.map.n (tile_cell tile.now block.row block.column) block.row block.column 16 16 cells.old cells.new }
     {
         let width = morton::side(self.map.n);
+        let order = self.order;
         // the rows before it are stored
         for row in 0..16 {
             let place = ((block.row + row) * width + block.column) as usize;
             let first = 16 * row as usize;
-            let codes = &self.order[first..first + 16];
+            let codes = &order[first..first + 16];
             tiles::gather(codes, tile, &mut cells[place..place + 16]);
         }
     }
@@ -99,9 +98,11 @@ pub fn fill(map: &Map, cells: &mut [u8])
     requires { length cells.old ≡ 4 ^ map.now.n }
     ensures { cells.new ≡ raster_of map.now.n map.now.list.now }
 {
+    let mut order = [0; 256];
+    put_order(&Spread::new(), &mut order);
     let filler = Filler {
         map: *map,
-        order: order(&Spread::new()),
+        order: &order,
     };
     filler.walk(0, cells, Block::whole(map.n));
 }

@@ -1,5 +1,5 @@
 // A raster as a picture, of which a list is made.
-ghost use Rattle.std.specs.Prelude.{◌≡◌, ℕ, ◌+◌, ◌<◌, get_or};
+ghost use Rattle.std.specs.Prelude.{◌≡◌, ℕ, ◌+◌, ◌<◌, ◌≤◌, get_or};
 ghost use Rattle.morton.specs.Code.{code};
 ghost use Rattle.tiling.specs.Leaf.{colours};
 ghost use Rattle.shortest.specs.Coded.{number_of};
@@ -60,7 +60,7 @@ impl<'a> Picture for Raster<'a> {
 
     ghost Lies = { λ r b. Inside r.n b.row b.column b.level };
 
-    ghost Small = { λ r b. (b.level ≡ 1) × Inside r.n b.row b.column b.level };
+    ghost Small = { λ r b. (0 < b.level) × (b.level ≤ 2) × Inside r.n b.row b.column b.level };
 
     ghost Opens = { λ r b. (0 < b.level) × Inside r.n b.row b.column b.level };
 
@@ -73,19 +73,29 @@ impl<'a> Picture for Raster<'a> {
     fn look(&self, block: Block) -> Look<Block> {
         match block.level {
             0 => Look::One(self.cell(block.row, block.column)),
-            1 => Look::Small(block),
+            1 | 2 => Look::Small(block),
             _ => Look::Closer(block),
         }
     }
 
-    // A tile has this line and that of `put_small` too: one line each over `joined` and `finish`, and a method that the trait provides
-    // would ask a view for four cells as well.
+    // Sixteen cells are walked in one step, as fours, of which none is looked at: most blocks of a raster are as small, and cost no call so.
+    // Inlined, as the step is.
+    #[inline(always)]
     fn count_small(&self, block: Block) -> Part {
-        shortest::joined(self.four(block))
+        let fours = Fours { raster: *self };
+        if block.level == 1 {
+            return fours.count_small(block);
+        }
+        shortest::count_step(&fours, sixteen(block))
     }
 
+    #[inline(always)]
     fn put_small(&self, block: Block, out: &mut [u64], at: u64) -> Part {
-        shortest::finish(out, at, self.four(block), Spot::from(block))
+        let fours = Fours { raster: *self };
+        if block.level == 1 {
+            return fours.put_small(block, out, at);
+        }
+        shortest::put_step(&fours, sixteen(block), out, at)
     }
 
     fn quarters(&self, block: Block) -> Four<Block> {
@@ -95,4 +105,70 @@ impl<'a> Picture for Raster<'a> {
     ghost coloured = { λ r b lies k. coloured r.n r.cells.now r.bytes k };
 
     ghost fits = { λ r b lies. block_fits b };
+}
+
+// A block of sixteen cells. Its level is written here, so that all that is computed from it is a constant.
+#[inline(always)]
+fn sixteen(block: Block) -> Block
+    requires { block.level ≡ 2 }
+    ensures { (result.code ≡ block.code) × (result.row ≡ block.row) × (result.column ≡ block.column) × (result.level ≡ block.level) }
+{
+    Block {
+        code: block.code,
+        row: block.row,
+        column: block.column,
+        level: 2,
+    }
+}
+
+// A raster of which nothing but blocks of four cells is looked at, as the quarters of blocks of sixteen.
+#[derive(Clone, Copy, Debug, PartialEq, Eq)]
+struct Fours<'a> {
+    raster: Raster<'a>,
+}
+
+impl<'a> Picture for Fours<'a> {
+    ghost use Rattle.rasters.specs.Laws.Pixel.{coloured, block_fits};
+
+    type Block = Block;
+
+    ghost colour_at = { λ f. pixel f.raster.n f.raster.cells.now };
+
+    ghost code_of = { λ b. b.code };
+
+    ghost level_of = { λ b. b.level };
+
+    ghost Lies = { λ f b. (b.level ≡ 1) × Inside f.raster.n b.row b.column b.level };
+
+    ghost Small = { λ f b. (b.level ≡ 1) × Inside f.raster.n b.row b.column b.level };
+
+    ghost Opens = { λ f b. (b.level ≡ 2) × Inside f.raster.n b.row b.column b.level };
+
+    fn spot(block: Block) -> Spot
+        ensures { (result.code ≡ block.code) × (result.level ≡ block.level) }
+    {
+        Spot::from(block)
+    }
+
+    fn look(&self, block: Block) -> Look<Block> {
+        Look::Small(block)
+    }
+
+    // A tile has this line and that of `put_small` too: one line each over `joined` and `finish`, and a method that the trait provides
+    // would ask a view for four cells as well.
+    fn count_small(&self, block: Block) -> Part {
+        shortest::joined(self.raster.four(block))
+    }
+
+    fn put_small(&self, block: Block, out: &mut [u64], at: u64) -> Part {
+        shortest::finish(out, at, self.raster.four(block), Spot::from(block))
+    }
+
+    fn quarters(&self, block: Block) -> Four<Block> {
+        Block::quarters(block)
+    }
+
+    ghost coloured = { λ f b lies k. coloured f.raster.n f.raster.cells.now f.raster.bytes k };
+
+    ghost fits = { λ f b lies. block_fits b };
 }

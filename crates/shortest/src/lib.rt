@@ -19,7 +19,7 @@ mod lists;
 mod walk;
 
 pub use lists::{leaves, list, write};
-pub use walk::{Look, Picture, count, put};
+pub use walk::{Look, Picture, count, count_step, put, put_step};
 
 // What a block comes to: the colour of all of it, or the number of leaves of its shortest list.
 #[derive(Clone, Copy, Debug, PartialEq, Eq)]

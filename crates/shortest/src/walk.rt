@@ -104,6 +104,16 @@ fn count_quarters<P: Picture>(picture: &P, block: P::Block) -> Part
     requires { P.Opens picture.now block × Divisible (P.colour_at picture.now) (P.level_of block) (P.code_of block) }
     ensures { number_of result ≡ part (P.colour_at picture.now) (P.level_of block) (P.code_of block) }
 {
+    count_step(picture, block)
+}
+
+// One step of it, inlined: a picture that makes the list of more than four cells at once takes it by itself.
+#[cycle(counts)]
+#[inline(always)]
+pub fn count_step<P: Picture>(picture: &P, block: P::Block) -> Part
+    requires { P.Opens picture.now block × Divisible (P.colour_at picture.now) (P.level_of block) (P.code_of block) }
+    ensures { number_of result ≡ part (P.colour_at picture.now) (P.level_of block) (P.code_of block) }
+{
     let quarter = picture.quarters(block);
     let nw = count(picture, quarter.nw);
     let ne = count(picture, quarter.ne);
@@ -132,6 +142,17 @@ pub fn put<P: Picture>(picture: &P, block: P::Block, out: &mut [u64], at: u64) -
 // The same of a block whose quarters are to be looked at.
 #[cycle(puts)]
 fn put_quarters<P: Picture>(picture: &P, block: P::Block, out: &mut [u64], at: u64) -> Part
+    requires { P.Opens picture.now block × Divisible (P.colour_at picture.now) (P.level_of block) (P.code_of block) × Placed (P.colour_at picture.now) out.old at (P.level_of block) (P.code_of block) }
+    ensures part { number_of result ≡ part (P.colour_at picture.now) (P.level_of block) (P.code_of block) }
+    ensures left { out.new ≡ sets out.old at (inner (P.colour_at picture.now) (P.level_of block) (P.code_of block)) }
+{
+    put_step(picture, block, out, at)
+}
+
+// One step of it, inlined, likewise.
+#[cycle(puts)]
+#[inline(always)]
+pub fn put_step<P: Picture>(picture: &P, block: P::Block, out: &mut [u64], at: u64) -> Part
     requires { P.Opens picture.now block × Divisible (P.colour_at picture.now) (P.level_of block) (P.code_of block) × Placed (P.colour_at picture.now) out.old at (P.level_of block) (P.code_of block) }
     ensures part { number_of result ≡ part (P.colour_at picture.now) (P.level_of block) (P.code_of block) }
     ensures left { out.new ≡ sets out.old at (inner (P.colour_at picture.now) (P.level_of block) (P.code_of block)) }

@@ -90,19 +90,27 @@ fn decode_four(chart: &Chart, hint: usize, row: u64, column: u64, cells: &mut [u
 }
 
 // Where each cell of a tile stands that lies so many rows and columns within four aligned blocks.
-#[tactic(auto, using(crate::specs::Laws::Codes::tile_cell_lem))]
 pub fn steps(row: u64, column: u64, table: &Spread) -> [u16; 256]
     requires { (row < 16) × (column < 16) }
     ensures { Steps row column result }
 {
     let mut steps = [0; 256];
+    put_steps(row, column, table, &mut steps);
+    steps
+}
+
+// The same, in memory that is lent: a table that is answered is copied, by a call that the archive for C would need from outside.
+#[tactic(auto, using(crate::specs::Laws::Codes::tile_cell_lem))]
+pub fn put_steps(row: u64, column: u64, table: &Spread, steps: &mut [u16; 256])
+    requires { (row < 16) × (column < 16) }
+    ensures { Steps row column steps.new }
+{
     // the steps before j are there
     for (j, step) in steps.iter_mut().enumerate() {
         let k = j as u64;
         let code = table.code_of(row + morton::row_of(k), column + morton::column_of(k));
         *step = code as u16;
     }
-    steps
 }
 
 // Takes each cell from its place among others: a tile's from four blocks by the steps, a row of a raster from a tile by the codes.

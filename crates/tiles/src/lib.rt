@@ -10,5 +10,5 @@
 mod decoding;
 mod listing;
 
-pub use decoding::{LEVEL, decode, gather, steps, store, tile};
+pub use decoding::{LEVEL, decode, gather, put_steps, steps, store, tile};
 pub use listing::Tile;

@@ -1,7 +1,7 @@
 -- One turn of the check's walk over a list.
 use Rattle.std.proofs.Math.Path.{◌≡◌}
 use Rattle.std.specs.Prelude.{Ok, Err}
-use Rattle.std.proofs.Common.{false, List, length, drop, ℕ, ◌+◌, ◌^◌, ◌<◌, ◌≤◌, add-one, arith}
+use Rattle.std.proofs.Common.{false, List, length, drop, ℕ, ◌+◌, ◌^◌, ◌<◌, ◌≤◌, add-one}
 use Rattle.std.proofs.Math.ListN.{get_or, drop_of_length-le}
 use Rattle.std.proofs.Math.Seq.{drop-cons}
 use borrow.Author.Tests.{eq-eqb, ne_eqb}
@@ -15,13 +15,13 @@ abbrev pub Walked : ℕ → List ℕ → ℕ → ℕ → Type 0
 Walked n l e i = checked n l ≡ checked_from n e i (drop i l)
 
 module _ (n : ℕ) (l : List ℕ) (e i : ℕ) (k : Walked n l e i) where
-  pub whole : i ≡ length l → e ≡ 4 ^ n → Ok tt ≡ checked n l
+  pub whole : length l ≤ i → e ≡ 4 ^ n → Ok tt ≡ checked n l
   unfolding checked_from
-  whole h p = let g : length l ≤ i = omega (arith, h) in rw (k, drop_of_length-le l g, eq-eqb e (4 ^ n) p)
+  whole h p = rw (k, drop_of_length-le l h, eq-eqb e (4 ^ n) p)
 
-  pub short : i ≡ length l → (e ≡ 4 ^ n → ⊥) → Err (length l) ≡ checked n l
+  pub short : length l ≤ i → (e ≡ 4 ^ n → ⊥) → Err i ≡ checked n l
   unfolding checked_from
-  short h p = let g : length l ≤ i = omega (arith, h) in rw (← h, k, drop_of_length-le l g, ne_eqb e (4 ^ n) p)
+  short h p = rw (k, drop_of_length-le l h, ne_eqb e (4 ^ n) p)
 
   module _ (h : i < length l) where
     pub wrong : right_entry n e (get_or l i 0) ≡ false → Err i ≡ checked n l

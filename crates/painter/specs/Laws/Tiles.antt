@@ -1,21 +1,22 @@
 -- A tile of a scene, from those of its two maps; and the picture over the block that it is.
-use Rattle.std.specs.Prelude.{◌≡◌, List, ℕ, ◌+◌, ◌-◌, ◌%◌, refl, Bool, true, false, ◌&&◌, ◌||◌, eqb, leb}
+use Rattle.std.specs.Prelude.{◌≡◌, List, ℕ, ◌+◌, ◌-◌, ◌%◌, ◌^◌, ◌<◌, refl, Bool, true, false, ◌&&◌, ◌||◌, eqb, leb}
 use Rattle.std.proofs.Common.{sym, ap₂, ◌∙◌, arith, ⊎_elim, eqb-true, leb-true}
 use Rattle.morton.specs.Block.{Block}
+use Rattle.morton.specs.Power.{highest}
 use Rattle.probe.specs.Biased.{cell_about}
 use Rattle.shortest.specs.Laws.Same.{Same}
-use Rattle.tiles.specs.Tile.{Tile}
+use Rattle.tiles.specs.Tile.{Tile, Steps}
 use Rattle.tiles.specs.Listing.{spots}
 use Rattle.tiles.specs.Listing as listing
 use Rattle.tiles.specs.Laws.Codes.{block_cell}
 use Rattle.painter.specs.Operation.{combine}
-use Rattle.painter.specs.Scene.{Scene, cell_of, picture}
+use Rattle.painter.specs.Scene.{Scene, Scened, Knows, cell_of, picture}
 use Rattle.painter.specs.Tiled.{Combined, Tiled}
 use Rattle.std.proofs.lemmas.Bool.{false≢true}
 use Rattle.tiling.specs.Laws.Tests.{and_both, or_either}
 use Rattle.probe.specs.declared.seen.Seen.{Seen}
 use Rattle.probe.specs.declared.seen.Seen.TheVariants.{One, Mixed}
-use Rattle.tiles.specs.Decoding.{Serves}
+use Rattle.tiles.specs.Decoding.{Serves, About}
 
 -- the test: the level is a tile's, and of each map one colour is seen, or the map is as large
 abbrev pub one_seen : Seen → Bool
@@ -35,6 +36,27 @@ tiled_told s ka kb level h =
 -- steps are the same a tile's side further on
 pub further : (v y : ℕ) → y % 16 ≡ 0 → v % 16 ≡ (v + y) % 16
 further v y h = omega arith
+
+-- a tile at row y, column x of the window, and the steps of the window's tiles in each map: each map has what is asked to decode its own
+module _ (s : Scene) (a b : List ℕ) (ka kb : Seen) (y x : ℕ) (z : Scened s a b) (k : Knows s a b ka kb y x 4) (t : Tiled s ka kb 4) (y_lt : y < 2 ^ highest) (x_lt : x < 2 ^ highest)
+    (rows : y % 16 ≡ 0) (columns : x % 16 ≡ 0) (first second : List ℕ) (p : Steps (s.ay % 16) (s.ax % 16) first) (q : Steps (s.by % 16) (s.bx % 16) second) where
+  pub first_about : About s.n a ka (s.ay + y) (s.ax + x) first
+  first_about = record {
+    holds = k.first;
+    large = t.first_large;
+    row_lt = omega (arith, z.ay_lt, y_lt);
+    column_lt = omega (arith, z.ax_lt, x_lt);
+    stepped = rw (further s.ay y rows, further s.ax x columns) at p;
+  }
+
+  pub second_about : About s.m b kb (s.by + y) (s.bx + x) second
+  second_about = record {
+    holds = k.second;
+    large = t.second_large;
+    row_lt = omega (arith, z.by_lt, y_lt);
+    column_lt = omega (arith, z.bx_lt, x_lt);
+    stepped = rw (further s.by y rows, further s.bx x columns) at q;
+  }
 
 -- cell by cell
 pub scene_tile : (s : Scene) (a b : List ℕ) (y x : ℕ) (f g o : List ℕ) → Tile (cell_about s.n a) (s.ay + y) (s.ax + x) 256 f → Tile (cell_about s.m b) (s.by + y) (s.bx + x) 256 g

@@ -11,6 +11,7 @@ use Rattle.morton.specs.Laws.Block.{block_level, quarters}
 use Rattle.morton.specs.declared.block.Block.{Block}
 use Rattle.tiling.specs.Leaf.{colours}
 use Rattle.shortest.specs.Part.{part}
+use Rattle.shortest.specs.Walk.{Divisible}
 use Rattle.shortest.proofs.Parts.{part_cell}
 use Rattle.rasters.specs.Raster.{pixel}
 use Rattle.rasters.specs.Listing.{Pixel, Inside}
@@ -40,6 +41,10 @@ pixel-bits n y x h p = let q : 2 ^ n ≤ 2 ^ 15 = pow_mono h in omega (arith, p.
 -- a block lies within the largest square, and the whole one within the map
 pub block_fits : (b : Block) → (b.level ≤ highest) × (b.code + 4 ^ b.level ≤ 4 ^ highest)
 block_fits b = (block_level _ _ _ _ b.is, b.is.fits)
+
+-- a block that is no single cell can be walked by its quarters
+pub divisible : (n : ℕ) (cells : List ℕ) → ((j : ℕ) → get_or cells j 0 < colours) → (b : Block) → 0 < b.level → Divisible (pixel n cells) b.level b.code
+divisible n cells h b p = let f = block_fits b in record { coloured = coloured n cells h; some = p; low = f.0; codes = f.1 }
 
 pub whole_inside : (n : ℕ) → Inside n 0 0 n
 whole_inside n = record { rows = omega arith; columns = omega arith }

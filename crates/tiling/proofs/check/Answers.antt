@@ -1,6 +1,6 @@
 -- `tiling::check` meets its contract. The loop keeps: the check of the list is that of what is left of it, after i entries that are
 -- right and end at `end`.
-use Rattle.std.proofs.Common.{◌≡◌, Some, None, arith, rules}
+use Rattle.std.proofs.Common.{◌≡◌, Some, None, length, arith, rules}
 use Rattle.std.proofs.Math.Path.{◌∙◌}
 use Rattle.std.proofs.Math.ListN.{get_or}
 use Rattle.tiling.specs.Check.{right_end}
@@ -28,4 +28,7 @@ pub returns-then-end-whole : goal.returns-then-end-whole
 returns-then-end-whole c = whole _ _ _ _ c.loop-i.invariant (omega arith) (c.if-end-whole.true ∙ c.area-whole.ensures.is)
 
 pub returns-else-end-whole : goal.returns-else-end-whole
-returns-else-end-whole c = short _ _ _ _ c.loop-i.invariant (omega arith) (rw c.area-whole.ensures.is at c.if-end-whole.false)
+returns-else-end-whole c =
+    let k = c.loop-i in
+    let at_end : k.i ≡ length c.args.list.now = omega arith in
+    rw at_end at (short _ _ _ _ k.invariant (omega (arith, at_end)) (rw c.area-whole.ensures.is at c.if-end-whole.false))

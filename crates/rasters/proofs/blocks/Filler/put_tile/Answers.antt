@@ -21,7 +21,7 @@ pub gather-requires : goal.gather-requires
 gather-requires c =
     let f = c.args.self.now in
     let e = sixteen c.loop-row.cells _ (fits (goal.at.gather-requires c).In-loop-row) in
-    (search (rules, places), λ j h. rw c.told-tile (row_codes_small f.order c.loop-row.row (search rules) f.rows (omega arith) j (rw e at h)))
+    (search (rules, places), λ j h. rw c.told-tile (row_codes_small f.order.now c.loop-row.row (search rules) f.rows (omega arith) j (rw e at h)))
 
 pub loop-row-preserved : goal.loop-row-preserved
 loop-row-preserved c =
@@ -31,5 +31,5 @@ loop-row-preserved c =
     let w = fits (goal.at.loop-row-preserved c).In-loop-row in
     let e = sixteen k.cells _ w in
     rows_more f.map.n (tile_cell c.args.tile.now b.row b.column) b.row b.column 16 k.row c.requires.1.right
-    (ap (λ (w : ℕ). (b.row + k.row) * w + b.column) c.side-width.ensures.is) refl (tile_row c.args.tile.now f.order b.row b.column k.row _ f.rows (omega arith)) k.invariant
-    (row_stored c.args.tile.now f.order k.cells c.gather.new.cells k.row _ (search rules) (omega arith) w (c.gather.auto.cells ∙ e) (λ d h. c.gather.ensures d (rw e h)))
+    (ap (λ (w : ℕ). (b.row + k.row) * w + b.column) c.side-width.ensures.is) refl (tile_row c.args.tile.now f.order.now b.row b.column k.row _ f.rows (omega arith)) k.invariant
+    (row_stored c.args.tile.now f.order.now k.cells c.gather.new.cells k.row _ (search rules) (omega arith) w (c.gather.auto.cells ∙ e) (λ d h. c.gather.ensures d (rw e h)))

@@ -1,18 +1,11 @@
--- `count_small` of `rasters::Raster` meets its contract: the four cells are the quarters of their block.
-use Rattle.std.proofs.Math.Path.{◌∙◌}
-use Rattle.shortest.proofs.Cells.{cells_fit, cells_part}
-use Rattle.rasters.specs.Raster.{pixel}
-use Rattle.rasters.specs.Laws.Pixel.{coloured}
+-- `count_small` of `rasters::Raster` meets its contract: a block that is not of four cells is of sixteen, and is walked by its quarters.
+use Rattle.std.proofs.Common.{arith}
+use Rattle.rasters.specs.Laws.Pixel.{divisible}
 use Rattle.rasters.proofs.listing.RasterPicture.count_small.Goals as goal
 
-pub joined-requires : goal.joined-requires
-joined-requires c =
-    let q = c.four.ensures in
+pub count_step-requires : goal.count_step-requires
+count_step-requires c =
     let r = c.args.self.now in
-    cells_fit (pixel r.n r.cells.now) (coloured _ _ r.bytes) c.args.block.code q.nw q.ne q.sw q.se
-
-pub returns : goal.returns
-returns c =
-    let q = c.four.ensures in
-    let r = c.args.self.now in
-    c.joined.ensures ∙ cells_part (pixel r.n r.cells.now) (coloured r.n _ r.bytes) c.args.block.code q.nw q.ne q.sw q.se c.requires.0
+    let p = c.requires in
+    let e = c.sixteen.ensures in
+    rw (e.0, e.1, e.2, e.3) ((omega (arith, p.0, p.1, c.if-block-eq1.false), p.2), divisible r.n r.cells.now r.bytes c.args.block p.0)
