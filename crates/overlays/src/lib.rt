@@ -137,7 +137,8 @@ pub fn overlay(
     let mut second_room = [0; 256];
     let rooms = (&mut first_room, &mut second_room);
     let view = view(operation, first, second, shift, window, &table, rooms);
-    shortest::list(&view, Glance::whole(window.size), out)
+    let whole = Glance::whole(window.size);
+    shortest::list(&view, whole, out)
 }
 
 // Writes the shortest list of a window of one map, and counts its leaves. It is the union with a map of one WHITE cell.

@@ -28,8 +28,8 @@ all_right c =
 pub view-view-requires : goal.view-view-requires
 view-view-requires c = (all_right (goal.at.view-view-requires c).In_ok-first).near
 
-pub whole-requires : goal.whole-requires
-whole-requires c = omega (arith, (all_right (goal.at.whole-requires c).In_ok-first).window_size)
+pub whole-whole-requires : goal.whole-whole-requires
+whole-whole-requires c = omega (arith, (all_right (goal.at.whole-whole-requires c).In_ok-first).window_size)
 
 pub returns : goal.returns
 returns c =
@@ -40,7 +40,7 @@ returns c =
     ∙ drawn a.operation a.n a.first.now a.m a.second.now a.shift w c.judge.result c.judge.ensures.judged _ c.in_ok-first.was (length a.out.now))
     a.out.now in
     let m = c.in_ok-first.ensures.maps in
-    let p = rw (c.view-view.ensures, c.whole.ensures.block.3, m.0.0, m.0.1, m.1.0, m.1.1) at c.list.ensures in
+    let p = rw (c.view-view.ensures, c.whole-whole.ensures.block.3, m.0.0, m.0.1, m.1.0, m.1.1) at c.list.ensures in
     record {
       answered = p.answered ∙ t.0;
       left = p.left ∙ t.1;
