@@ -12,7 +12,7 @@ ghost use Rattle.shortest.specs.Outcome.{written, left};
 ghost use Rattle.conversions.specs.Rasters.{raster_to_list, list_to_raster};
 
 use morton::Block;
-use rasters::Raster;
+use rasters::{Raster, Sixteens};
 use refusal::Refusal;
 use tiling::Map;
 
@@ -35,7 +35,8 @@ pub fn to_list(n: u64, cells: &[u8], out: &mut [u64]) -> Result<u64, Refusal>
     ensures left { out.new ≡ left (raster_to_list n cells.now (length out.old)) out.old }
 {
     whole(n, cells.len())?;
-    shortest::list(&Raster { n, cells }, Block::whole(n), out)
+    let raster = Raster { n, cells };
+    shortest::list(&Sixteens { raster }, Block::whole(n), out)
 }
 
 // Fills the raster of a map of size n, and counts its cells.

@@ -9,7 +9,7 @@ ghost use Rattle.printing.specs.Lines.{printed};
 mod lines;
 
 use morton::Block;
-use rasters::Raster;
+use rasters::{Raster, Sixteens};
 
 // Writes what the program prints of a picture text, and says how many bytes that is. Lines of sixteen bytes would do for 1,024 leaves.
 pub fn leaves(text: &[u8], out: &mut [u8; 16384]) -> usize
@@ -27,6 +27,6 @@ pub fn leaves(text: &[u8], out: &mut [u8; 16384]) -> usize
         n,
         cells: &cells[..whole],
     };
-    let count = shortest::write(&raster, Block::whole(n), &mut list) as usize;
+    let count = shortest::write(&Sixteens { raster }, Block::whole(n), &mut list) as usize;
     lines::put_lines(out, n, &list[..count])
 }

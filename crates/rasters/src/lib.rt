@@ -5,6 +5,8 @@
 
 mod blocks;
 mod listing;
+#[cfg(test)]
+mod tests;
 
 pub use blocks::fill;
-pub use listing::Raster;
+pub use listing::{Raster, Sixteens};

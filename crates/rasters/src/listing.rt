@@ -1,4 +1,4 @@
-// A raster as a picture, of which a list is made.
+// A raster as a picture, of which a list is made: four cells at a time, or sixteen.
 ghost use Rattle.std.specs.Prelude.{◌≡◌, ℕ, ◌+◌, ◌<◌, ◌≤◌, get_or};
 ghost use Rattle.morton.specs.Code.{code};
 ghost use Rattle.tiling.specs.Leaf.{colours};
@@ -60,7 +60,7 @@ impl<'a> Picture for Raster<'a> {
 
     ghost Lies = { λ r b. Inside r.n b.row b.column b.level };
 
-    ghost Small = { λ r b. (0 < b.level) × (b.level ≤ 2) × Inside r.n b.row b.column b.level };
+    ghost Small = { λ r b. (b.level ≡ 1) × Inside r.n b.row b.column b.level };
 
     ghost Opens = { λ r b. (0 < b.level) × Inside r.n b.row b.column b.level };
 
@@ -73,16 +73,72 @@ impl<'a> Picture for Raster<'a> {
     fn look(&self, block: Block) -> Look<Block> {
         match block.level {
             0 => Look::One(self.cell(block.row, block.column)),
+            1 => Look::Small(block),
+            _ => Look::Closer(block),
+        }
+    }
+
+    fn count_small(&self, block: Block) -> Part {
+        Fours { raster: *self }.count_small(block)
+    }
+
+    fn put_small(&self, block: Block, out: &mut [u64], at: u64) -> Part {
+        Fours { raster: *self }.put_small(block, out, at)
+    }
+
+    fn quarters(&self, block: Block) -> Four<Block> {
+        Sixteens { raster: *self }.quarters(block)
+    }
+
+    ghost coloured = { λ r b lies k. coloured r.n r.cells.now r.bytes k };
+
+    ghost fits = { λ r b lies. block_fits b };
+}
+
+// A raster of which a list is made sixteen cells at a time: most blocks of a raster are as small, and cost no call so.
+#[derive(Clone, Copy, Debug, PartialEq, Eq)]
+pub struct Sixteens<'a> {
+    pub raster: Raster<'a>,
+}
+
+impl<'a> Picture for Sixteens<'a> {
+    ghost use Rattle.std.specs.Prelude.{◌<◌};
+    ghost use Rattle.rasters.specs.Laws.Pixel.{coloured, block_fits};
+
+    type Block = Block;
+
+    ghost colour_at = { λ s. pixel s.raster.n s.raster.cells.now };
+
+    ghost code_of = { λ b. b.code };
+
+    ghost level_of = { λ b. b.level };
+
+    ghost Lies = { λ s b. Inside s.raster.n b.row b.column b.level };
+
+    ghost Small = { λ s b. (0 < b.level) × (b.level ≤ 2) × Inside s.raster.n b.row b.column b.level };
+
+    ghost Opens = { λ s b. (0 < b.level) × Inside s.raster.n b.row b.column b.level };
+
+    fn spot(block: Block) -> Spot
+        ensures { (result.code ≡ block.code) × (result.level ≡ block.level) }
+    {
+        Spot::from(block)
+    }
+
+    fn look(&self, block: Block) -> Look<Block> {
+        match block.level {
+            0 => Look::One(self.raster.cell(block.row, block.column)),
             1 | 2 => Look::Small(block),
             _ => Look::Closer(block),
         }
     }
 
-    // Sixteen cells are walked in one step, as fours, of which none is looked at: most blocks of a raster are as small, and cost no call so.
-    // Inlined, as the step is.
+    // One step of the walk, over fours, of which none is looked at. Inlined, as the step is.
     #[inline(always)]
     fn count_small(&self, block: Block) -> Part {
-        let fours = Fours { raster: *self };
+        let fours = Fours {
+            raster: self.raster,
+        };
         if block.level == 1 {
             return fours.count_small(block);
         }
@@ -91,7 +147,9 @@ impl<'a> Picture for Raster<'a> {
 
     #[inline(always)]
     fn put_small(&self, block: Block, out: &mut [u64], at: u64) -> Part {
-        let fours = Fours { raster: *self };
+        let fours = Fours {
+            raster: self.raster,
+        };
         if block.level == 1 {
             return fours.put_small(block, out, at);
         }
@@ -102,9 +160,9 @@ impl<'a> Picture for Raster<'a> {
         block.quarters()
     }
 
-    ghost coloured = { λ r b lies k. coloured r.n r.cells.now r.bytes k };
+    ghost coloured = { λ s b lies k. coloured s.raster.n s.raster.cells.now s.raster.bytes k };
 
-    ghost fits = { λ r b lies. block_fits b };
+    ghost fits = { λ s b lies. block_fits b };
 }
 
 // A block of sixteen cells. Its level is written here, so that all that is computed from it is a constant.
